@@ -1,0 +1,203 @@
+-- Laws of sums, maxima and searches over the numbers below n.
+--
+-- In order: a case split on a test; `total`; `count`; `greatest`; `some`; `least`; `listed`. Each is an induction on n. Assumes nothing.
+use Prim.Native.Nat.{ℕ, zero, suc, _+_, _-_, _≤_, _<_, max}
+use native.Mathlib.Nat.{le-max-left, le-max-right, le-trans, eq-or-lt-of-le, le-of-suc-le-suc, lt-irrefl}
+use native.Mathlib.Omega.{arith}
+use mathlib.Core.Path.{_≡_, refl, sym, ap, _∙_, subst}
+use mathlib.Core.Logic.{⊎-elim, _⊎_}
+use mathlib.Core.Bool.{Bool, true, false, not, cond, _&&_, _||_, or-true, true≢false, false≢true}
+use mathlib.Core.List.{List, [], _∷_, _++_}
+use lib.ListN.{length, getD, length-append, List·getD-append}
+use lib.Seq.{getD-at}
+use lib.Dec.{ltb}
+use borrow.Author.Tests.{ltb-true, ltb-false}
+use Rattle.jobs.specs.Below.{total, count, greatest, some, least, listed}
+
+-- ---- tests
+
+pub by-cases {ℓ} : {P : Type ℓ} (b : Bool) → (b ≡ true → P) → (b ≡ false → P) → P
+by-cases true f g = f refl
+by-cases false f g = g refl
+
+pub and-left : (a b : Bool) → (a && b) ≡ true → a ≡ true
+and-left true b e = refl
+and-left false b e = e
+
+pub and-right : (a b : Bool) → (a && b) ≡ true → b ≡ true
+and-right true b e = e
+and-right false b e = absurd (false≢true e)
+
+pub and-both : (a b : Bool) → a ≡ true → b ≡ true → (a && b) ≡ true
+and-both a b p q = rw (p, q)
+
+-- an index below suc n is below n or is n
+pub below-suc {ℓ} : {P : Type ℓ} {i n : ℕ} → i < suc n → (i < n → P) → (i ≡ n → P) → P
+below-suc h f g = ⊎-elim (λ e. g e) (λ l. f l) (eq-or-lt-of-le (le-of-suc-le-suc h))
+
+-- ---- total
+
+pub total-same : (n : ℕ) (g h : ℕ → ℕ) → ((i : ℕ) → i < n → g i ≡ h i) → total n g ≡ total n h
+unfolding total
+total-same zero g h e = refl
+total-same (suc n) g h e = omega (arith, total-same n g h (λ i l. e i (omega arith)), e n (omega arith))
+
+pub total-le : (n : ℕ) (g h : ℕ → ℕ) → ((i : ℕ) → i < n → g i ≤ h i) → total n g ≤ total n h
+unfolding total
+total-le zero g h e = omega arith
+total-le (suc n) g h e = omega (arith, total-le n g h (λ i l. e i (omega arith)), e n (omega arith))
+
+pub total-zero : (n : ℕ) (g : ℕ → ℕ) → ((i : ℕ) → i < n → g i ≡ 0) → total n g ≡ 0
+unfolding total
+total-zero zero g e = refl
+total-zero (suc n) g e = omega (arith, total-zero n g (λ i l. e i (omega arith)), e n (omega arith))
+
+pub part-le-total : (n : ℕ) (g : ℕ → ℕ) (i : ℕ) → i < n → g i ≤ total n g
+unfolding total
+part-le-total zero g i l = omega arith
+part-le-total (suc n) g i l =
+    below-suc l (λ k. omega (arith, part-le-total n g i k)) (λ e. omega (arith, ap g e))
+
+pub total-positive : (n : ℕ) (g : ℕ → ℕ) → 0 < total n g → (i : ℕ) × (i < n) × (0 < g i)
+unfolding total
+total-positive zero g h = absurd (omega arith)
+total-positive (suc n) g h = go (g n) refl (total-positive n g)
+  where
+    go : (x : ℕ) → g n ≡ x → (0 < total n g → (i : ℕ) × (i < n) × (0 < g i)) → (i : ℕ) × (i < suc n) × (0 < g i)
+    go zero e more = let m = more (omega arith) in (m .0, omega (arith, m .1), m .2)
+    go (suc x) e more = (n, omega arith, omega arith)
+
+pub total-add : (n : ℕ) (g h : ℕ → ℕ) → total n (λ i. g i + h i) ≡ total n g + total n h
+unfolding total
+total-add zero g h = refl
+total-add (suc n) g h = omega (arith, total-add n g h)
+
+pub total-swap : (n m : ℕ) (g : ℕ → ℕ → ℕ) → total n (λ i. total m (λ j. g i j)) ≡ total m (λ j. total n (λ i. g i j))
+unfolding total
+total-swap zero m g = sym (total-zero m (λ j. 0) (λ i l. refl))
+total-swap (suc n) m g =
+    omega (arith, total-swap n m g, total-add m (λ j. total n (λ i. g i j)) (λ j. g n j))
+
+-- one part falls by one and the others stay, so the sum falls by one
+pub total-falls : (n : ℕ) (g h : ℕ → ℕ) (i : ℕ) → i < n → h i + 1 ≡ g i → ((j : ℕ) → j < n → (j ≡ i → ⊥) → h j ≡ g j) → total n h + 1 ≡ total n g
+unfolding total
+total-falls zero g h i l e s = absurd (omega arith)
+total-falls (suc n) g h i l e s =
+    below-suc l
+    (λ k. omega (arith, total-falls n g h i k e (λ j m d. s j (omega arith) d), s n (omega arith) (λ q. omega arith)))
+    (λ q. omega (arith, total-same n h g (λ j m. s j (omega arith) (λ w. omega arith)), ap g q, ap h q, e))
+
+-- ---- greatest
+
+pub greatest-bounds : (n : ℕ) (g : ℕ → ℕ) (i : ℕ) → i < n → g i ≤ greatest n g
+unfolding greatest
+greatest-bounds zero g i l = omega arith
+greatest-bounds (suc n) g i l =
+    below-suc l
+    (λ k. le-trans (greatest-bounds n g i k) (le-max-left (greatest n g) (g n)))
+    (λ e. rw e (le-max-right (greatest n g) (g n)))
+
+pub greatest-le : (n : ℕ) (g : ℕ → ℕ) (b : ℕ) → ((i : ℕ) → i < n → g i ≤ b) → greatest n g ≤ b
+unfolding greatest
+greatest-le zero g b h = omega arith
+greatest-le (suc n) g b h = omega (arith, greatest-le n g b (λ i l. h i (omega arith)), h n (omega arith))
+
+pub greatest-same : (n : ℕ) (g h : ℕ → ℕ) → ((i : ℕ) → i < n → g i ≡ h i) → greatest n g ≡ greatest n h
+unfolding greatest
+greatest-same zero g h e = refl
+greatest-same (suc n) g h e = omega (arith, greatest-same n g h (λ i l. e i (omega arith)), e n (omega arith))
+
+pub greatest-reached : (n : ℕ) (g : ℕ → ℕ) → (i : ℕ) × (i < suc n) × (greatest (suc n) g ≡ g i)
+unfolding greatest
+greatest-reached zero g = (0, omega arith, omega arith)
+greatest-reached (suc n) g = go (greatest (suc n) g - g (suc n)) refl (greatest-reached n g)
+  where
+    go : (d : ℕ) → greatest (suc n) g - g (suc n) ≡ d → (i : ℕ) × (i < suc n) × (greatest (suc n) g ≡ g i)
+        → (i : ℕ) × (i < suc (suc n)) × (greatest (suc (suc n)) g ≡ g i)
+    go zero e r = (suc n, omega arith, omega arith)
+    go (suc d) e r = (r .0, omega (arith, r .1), omega (arith, r .2))
+
+-- ---- some
+
+pub some-at : (n : ℕ) (p : ℕ → Bool) (i : ℕ) → i < n → p i ≡ true → some n p ≡ true
+unfolding some
+some-at zero p i l e = absurd (omega arith)
+some-at (suc n) p i l e =
+    below-suc l (λ k. rw (some-at n p i k e)) (λ q. rw (← q, e) (or-true (some i p)))
+
+pub some-where : (n : ℕ) (p : ℕ → Bool) → some n p ≡ true → (i : ℕ) × (i < n) × (p i ≡ true)
+unfolding some
+some-where zero p e = absurd (false≢true e)
+some-where (suc n) p e = by-cases (some n p) (λ s. let m = some-where n p s in (m .0, omega (arith, m .1), m .2)) (λ s. (n, omega arith, rw s at e))
+
+pub none-at : (n : ℕ) (p : ℕ → Bool) → some n p ≡ false → (i : ℕ) → i < n → p i ≡ false
+none-at n p e i l = by-cases (p i) (λ q. absurd (true≢false (sym (some-at n p i l q) ∙ e))) (λ q. q)
+
+pub none-all : (n : ℕ) (p : ℕ → Bool) → ((i : ℕ) → i < n → p i ≡ false) → some n p ≡ false
+none-all n p h =
+    by-cases (some n p)
+    (λ e. let m = some-where n p e in absurd (true≢false (sym (m .2) ∙ h (m .0) (m .1))))
+    (λ e. e)
+
+-- ---- least
+
+pub least-le : (n : ℕ) (p : ℕ → Bool) → least n p ≤ n
+unfolding least
+least-le zero p = omega arith
+least-le (suc n) p = by-cases (p (least n p)) (λ e. rw e (omega (arith, least-le n p))) (λ e. rw e (omega arith))
+
+pub least-holds : (n : ℕ) (p : ℕ → Bool) → least n p < n → p (least n p) ≡ true
+unfolding least
+least-holds zero p l = absurd (omega arith)
+least-holds (suc n) p l = by-cases (p (least n p)) (λ e. rw e e) (λ e. absurd (lt-irrefl (suc n) (rw e at l)))
+
+-- where the search comes to n, nothing below n has p, and otherwise what it comes to has p
+pub least-cases {ℓ} : {P : Type ℓ} (n : ℕ) (p : ℕ → Bool) → (least n p < n → p (least n p) ≡ true → P) → (least n p ≡ n → P) → P
+least-cases n p f g = ⊎-elim (λ e. g e) (λ l. f l (least-holds n p l)) (eq-or-lt-of-le (least-le n p))
+
+pub before-least : (n : ℕ) (p : ℕ → Bool) (i : ℕ) → i < least n p → p i ≡ false
+unfolding least
+before-least zero p i l = absurd (omega arith)
+before-least (suc n) p i l =
+    by-cases (p (least n p))
+    (λ e. before-least n p i (rw e at l))
+    (λ e. none-before n p i e (rw e at l) (before-least n p i))
+  where
+    none-before : (n : ℕ) (p : ℕ → Bool) (i : ℕ) → p (least n p) ≡ false → i < suc n → (i < least n p → p i ≡ false) → p i ≡ false
+    none-before n p i e k more =
+        least-cases n p
+        (λ l h. absurd (true≢false (sym h ∙ e)))
+        (λ q. below-suc k (λ m. more (omega arith)) (λ w. ap p (w ∙ sym q) ∙ e))
+
+-- the search comes to the first that has p
+pub least-is : (n : ℕ) (p : ℕ → Bool) (i : ℕ) → i < n → p i ≡ true → ((j : ℕ) → j < i → p j ≡ false) → least n p ≡ i
+least-is n p i l e h =
+    by-cases (ltb (least n p) i)
+    (λ t. let k : least n p < i = ltb-true _ _ t in absurd (true≢false (sym (least-holds n p (omega arith)) ∙ h (least n p) k)))
+    (λ t. by-cases (ltb i (least n p))
+    (λ u. absurd (true≢false (sym e ∙ before-least n p i (ltb-true _ _ u))))
+    (λ u. omega (arith, ltb-false)))
+
+pub least-none : (n : ℕ) (p : ℕ → Bool) → ((i : ℕ) → i < n → p i ≡ false) → least n p ≡ n
+least-none n p h = least-cases n p (λ l e. absurd (true≢false (sym e ∙ h (least n p) l))) (λ q. q)
+
+pub least-same : (n : ℕ) (p q : ℕ → Bool) → ((i : ℕ) → i < n → p i ≡ q i) → least n p ≡ least n q
+least-same n p q h =
+    least-cases n q
+    (λ l e. least-is n p (least n q) l (h (least n q) l ∙ e) (λ j m. h j (omega arith) ∙ before-least n q j m))
+    (λ e. least-none n p (λ i l. h i l ∙ before-least n q i (omega arith)) ∙ sym e)
+
+-- ---- listed
+
+pub length-listed : {A : Type 0} (n : ℕ) (g : ℕ → A) → length (listed n g) ≡ n
+unfolding listed
+length-listed zero g = refl
+length-listed (suc n) g = omega (arith, length-append (listed n g) (g n ∷ []), length-listed n g)
+
+pub getD-listed : {A : Type 0} (n : ℕ) (g : ℕ → A) (d : A) (i : ℕ) → i < n → getD (listed n g) i d ≡ g i
+unfolding listed
+getD-listed zero g d i l = absurd (omega arith)
+getD-listed (suc n) g d i l =
+    below-suc l
+    (λ k. List·getD-append (listed n g) (g n ∷ []) d i (omega (arith, length-listed n g)) ∙ getD-listed n g d i k)
+    (λ e. rw e (getD-at (listed n g) (g n) [] d n (length-listed n g)))

@@ -1,0 +1,3 @@
+pub mod Below
+pub mod Table
+pub mod Urgency

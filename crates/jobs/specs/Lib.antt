@@ -1,0 +1,4 @@
+pub mod Below
+pub mod Table
+pub mod Urgency
+pub mod Refusals
