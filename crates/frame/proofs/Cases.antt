@@ -131,3 +131,8 @@ cases-hold = (
     ),
   ),
 )
+
+-- Of two jobs that miss, the more urgent is named.
+pub two-miss : verdict (0 ∷ 3 ∷ 2 ∷ 0 ∷ 0 ∷ 3 ∷ 1 ∷ 0 ∷ []) 0 ≡ Miss (record { 0 = 1 }) 3
+unfolding worked
+two-miss = refl

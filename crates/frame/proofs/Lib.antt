@@ -1,1 +1,9 @@
 pub mod Cases
+pub mod Foremost
+pub mod Queue
+pub mod Slots
+pub mod Work
+pub mod Finish
+pub mod Patterns
+pub mod Verdicts
+pub mod Jumps

@@ -5,7 +5,7 @@ use mathlib.Core.Bool.{Bool, true, false, cond}
 use mathlib.Core.List.{List, [], _∷_}
 use lib.ListN.{length}
 use lib.Dec.{ltb}
-use lib.IntN.{ℤ, pos, negsuc, _-ℤ_}
+use lib.IntN.{ℤ, pos, negsuc, subℕ}
 use Rattle.jobs.specs.Below.{greatest, least}
 use Rattle.jobs.specs.Table.{jobs, deadline}
 use Rattle.frame.specs.Schedule.{foremost, finish}
@@ -33,7 +33,7 @@ latest table k job = overPatterns (jobs table) k (λ pattern. finish table patte
 
 -- Its margin is D minus the latest finish, signed.
 unfoldable pub margin : List ℕ → ℕ → ℕ → ℤ
-margin table k job = pos (deadline table job) -ℤ pos (latest table k job)
+margin table k job = subℕ (deadline table job) (latest table k job)
 
 -- Whether a margin is negative.
 unfoldable pub negative : ℤ → Bool

@@ -1,8 +1,8 @@
 -- Laws of sums, maxima and searches over the numbers below n.
 --
 -- In order: a case split on a test; `total`; `count`; `greatest`; `some`; `least`; `listed`. Each is an induction on n. Assumes nothing.
-use Prim.Native.Nat.{ℕ, zero, suc, _+_, _-_, _≤_, _<_, max}
-use native.Mathlib.Nat.{le-max-left, le-max-right, le-trans, eq-or-lt-of-le, le-of-suc-le-suc, lt-irrefl}
+use Prim.Native.Nat.{ℕ, zero, suc, _+_, _-_, _≤_, _<_, zero-le, max}
+use native.Mathlib.Nat.{le-max-left, le-max-right, le-trans, eq-or-lt-of-le, le-of-suc-le-suc, lt-irrefl, le-antisymm}
 use native.Mathlib.Omega.{arith}
 use mathlib.Core.Path.{_≡_, refl, sym, ap, _∙_, subst}
 use mathlib.Core.Logic.{⊎-elim, _⊎_}
@@ -10,8 +10,8 @@ use mathlib.Core.Bool.{Bool, true, false, not, cond, _&&_, _||_, or-true, true�
 use mathlib.Core.List.{List, [], _∷_, _++_}
 use lib.ListN.{length, getD, length-append, List·getD-append}
 use lib.Seq.{getD-at}
-use lib.Dec.{ltb}
-use borrow.Author.Tests.{ltb-true, ltb-false}
+use lib.Dec.{ltb, eqb}
+use borrow.Author.Tests.{ltb-true, ltb-false, eqb-true, eqb-false, eq-eqb, ne-eqb}
 use Rattle.jobs.specs.Below.{total, count, greatest, some, least, listed}
 
 -- ---- tests
@@ -77,6 +77,41 @@ unfolding total
 total-swap zero m g = sym (total-zero m (λ j. 0) (λ i l. refl))
 total-swap (suc n) m g =
     omega (arith, total-swap n m g, total-add m (λ j. total n (λ i. g i j)) (λ j. g n j))
+
+pub total-more : (g : ℕ → ℕ) (n m : ℕ) → n ≤ m → total n g ≤ total m g
+unfolding total
+total-more g n zero l = omega (arith, ap (λ k. total k g) (le-antisymm l zero-le))
+total-more g n (suc m) l =
+    ⊎-elim (λ e. rw e (omega arith)) (λ k. omega (arith, total-more g n m (le-of-suc-le-suc k))) (eq-or-lt-of-le l)
+
+-- of all parts only the one at a
+pub total-one : (n a : ℕ) (g : ℕ → ℕ) → a < n → total n (λ j. cond (eqb a j) (g j) 0) ≡ g a
+unfolding total
+total-one zero a g l = absurd (omega arith)
+total-one (suc n) a g l =
+    below-suc l
+    (λ k. rw (ne-eqb a n (λ e. omega arith)) (omega (arith, total-one n a g k)))
+    (λ e.
+    rw (eq-eqb a n e)
+    (omega (arith, total-zero n (λ j. cond (eqb a j) (g j) 0) (λ j k. rw (ne-eqb a j (λ q. omega arith))), ap g e)))
+
+-- a sum may be taken in another order
+pub total-rearranged : (n : ℕ) (at number : ℕ → ℕ) (g : ℕ → ℕ)
+    → ((q : ℕ) → q < n → at q < n) → ((j : ℕ) → j < n → number j < n) → ((q : ℕ) → q < n → number (at q) ≡ q) → ((j : ℕ) → j < n → at (number j) ≡ j)
+    → total n (λ q. g (at q)) ≡ total n g
+total-rearranged n at number g a b c d =
+    total-same n (λ q. g (at q)) (λ q. total n (λ j. cond (eqb (at q) j) (g j) 0)) (λ q l. sym (total-one n (at q) g (a q l)))
+    ∙ total-swap n n (λ q j. cond (eqb (at q) j) (g j) 0)
+    ∙ total-same n (λ j. total n (λ q. cond (eqb (at q) j) (g j) 0)) g
+    (λ j l.
+    total-same n (λ q. cond (eqb (at q) j) (g j) 0) (λ q. cond (eqb (number j) q) (g j) 0) (λ q k. ap (λ e. cond e (g j) 0) (turn q j k l))
+    ∙ total-one n (number j) (λ _. g j) (b j l))
+  where
+    turn : (q j : ℕ) → q < n → j < n → eqb (at q) j ≡ eqb (number j) q
+    turn q j k l =
+        by-cases (eqb (at q) j)
+        (λ e. e ∙ sym (eq-eqb (number j) q (ap number (sym (eqb-true _ _ e)) ∙ c q k)))
+        (λ e. e ∙ sym (ne-eqb (number j) q (λ f. eqb-false _ _ e (ap at (sym f) ∙ d j l))))
 
 -- one part falls by one and the others stay, so the sum falls by one
 pub total-falls : (n : ℕ) (g h : ℕ → ℕ) (i : ℕ) → i < n → h i + 1 ≡ g i → ((j : ℕ) → j < n → (j ≡ i → ⊥) → h j ≡ g j) → total n h + 1 ≡ total n g
