@@ -1,3 +1,5 @@
 pub mod Below
 pub mod Table
 pub mod Urgency
+pub mod Orders
+pub mod Refusals
