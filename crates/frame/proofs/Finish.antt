@@ -12,12 +12,12 @@ use borrow.Author.Tests.{ltb-true, ltb-false, lt-ltb, leb-true, leb-false, le-le
 use Rattle.jobs.specs.Below.{total, greatest, least}
 use Rattle.jobs.specs.Table.{jobs, ready}
 use Rattle.jobs.specs.Urgency.{urgent}
-use Rattle.jobs.proofs.Below.{by-cases, and-left, and-right, part-le-total, total-le, total-zero, total-rearranged, least-is, greatest-bounds}
+use Rattle.jobs.proofs.Below.{by-cases, and-left, and-right, part-le-total, total-le, total-zero, least-is, greatest-bounds}
 use Rattle.jobs.proofs.Urgency.{StrictOrder, urgency-order}
 use Rattle.frame.specs.Schedule.{need, had, horizon, finish}
-use Rattle.frame.proofs.Slots.{waitsAt, runsAt, waits-is, is-waiting, runs-is, had-runs, had-stays, had-rests, had-within, had-unready}
+use Rattle.frame.proofs.Slots.{waitsAt, runsAt, waits-is, is-waiting, runs-is, had-runs, had-stays, had-rests, had-rises, had-within, had-unready}
 use Rattle.frame.proofs.Queue.{FirstZero, left, ends, tail, queue-empties, queue-bound}
-use Rattle.frame.proofs.Work.{Closed, owed, work, Rearranges, comesAt, brings, work-is-left}
+use Rattle.frame.proofs.Work.{Closed, owed, work, arrival, comesAt, turn, brings, arrivals, comes-rising, in-order-of-ready, work-is-left}
 
 module _ (table : List ℕ) (job : ℕ) where
   -- the jobs at least as urgent as this one
@@ -37,6 +37,16 @@ module _ (table : List ℕ) (job : ℕ) where
           by-cases (urgent table job i)
           (λ v. absurd (true≢false (sym (urgency-order table .transitive job i j v u) ∙ not-true _ s)))
           (λ v. rw v)
+
+-- where the queue of the jobs at least as urgent, in the order of ready times, runs empty after this job came
+unfoldable pub runsEmpty : List ℕ → List ℕ → ℕ → ℕ
+runsEmpty table pattern job =
+    tail (comesAt table) (brings table pattern (atLeast table job)) (jobs table - suc (turn table job)) (suc (turn table job))
+    (ends (comesAt table) (brings table pattern (atLeast table job)) (suc (turn table job)))
+
+-- the work of the jobs at least as urgent
+unfoldable pub workload : List ℕ → List ℕ → ℕ → ℕ
+workload table pattern job = total (jobs table) (λ i. cond (atLeast table job i) (need table pattern i) 0)
 
 module _ (table pattern : List ℕ) (job : ℕ) (isJob : job < jobs table) where
   -- whether slot t meets the job's need
@@ -119,65 +129,103 @@ module _ (table pattern : List ℕ) (job : ℕ) (isJob : job < jobs table) where
         before : (s : ℕ) → s < t → met s ≡ false
         before s l = by-cases (met s) (λ m. absurd (too-early s l (leb-true _ _ m))) (λ m. m)
 
-    module _ (at number : ℕ → ℕ) (r : Rearranges (jobs table) at number) (rises : (p q : ℕ) → p ≤ q → q < jobs table → ready table (at p) ≤ ready table (at q)) where
-      -- the queue of the jobs at least as urgent, in the order of ready times, and this job's position in it
-      abbrev ρ : ℕ → ℕ
-      ρ = comesAt table pattern (atLeast table job) (at-least-closed table job) at number r
+    -- the queue of the jobs at least as urgent, in the order of ready times, and this job's turn in it
+    abbrev ν : ℕ → ℕ
+    ν = brings table pattern (atLeast table job)
 
-      abbrev ν : ℕ → ℕ
-      ν = brings table pattern (atLeast table job) (at-least-closed table job) at number r
+    abbrev p : ℕ
+    p = turn table job
 
-      abbrev p : ℕ
-      p = number job
+    turn-below : p < jobs table
+    turn-below = arrivals table .number-below job isJob
 
-      abbrev runsEmpty : ℕ
-      runsEmpty = tail ρ ν (jobs table - suc p) (suc p) (ends ρ ν (suc p))
+    own-turn : arrival table p ≡ job
+    own-turn = arrivals table .at-number job isJob
 
-      same-ready : ρ p ≡ ready table job
-      same-ready = ap (ready table) (r .at-number job isJob)
+    same-ready : comesAt table p ≡ ready table job
+    same-ready = ap (ready table) own-turn
 
-      same-need : ν p ≡ need table pattern job
-      same-need = rw (r .at-number job isJob, at-least-itself table job)
+    same-need : ν p ≡ need table pattern job
+    same-need = rw (own-turn, at-least-itself table job)
 
-      -- the work of the jobs at least as urgent
-      abbrev pub workload : ℕ
-      workload = total (jobs table) (λ i. cond (atLeast table job i) (need table pattern i) 0)
+    empty-bound : runsEmpty table pattern job ≤ ready table job + workload table pattern job
+    unfolding workload runsEmpty
+    empty-bound =
+        omega (
+          arith,
+          queue-bound (comesAt table) ν (jobs table) (comes-rising table) p turn-below,
+          same-ready,
+          in-order-of-ready table (λ i. cond (atLeast table job i) (need table pattern i) 0),
+        )
 
-      empty-bound : runsEmpty ≤ ready table job + workload
-      empty-bound =
-          omega (
-            arith,
-            queue-bound ρ ν (jobs table) rises p (r .number-below job isJob),
-            same-ready,
-            total-rearranged (jobs table) at number (λ i. cond (atLeast table job i) (need table pattern i) 0) (r .at-below) (r .number-below) (r .number-at) (r .at-number),
-          )
+    empty-in-time : runsEmpty table pattern job ≤ horizon table pattern
+    unfolding horizon workload
+    empty-in-time =
+        omega (
+          arith,
+          empty-bound,
+          greatest-bounds (jobs table) (ready table) job isJob,
+          total-le (jobs table) (λ i. cond (atLeast table job i) (need table pattern i) 0) (need table pattern)
+              (λ i l. by-cases (atLeast table job i) (λ e. rw e (omega arith)) (λ e. rw e (omega arith))),
+        )
 
-      -- The finish law: a job finishes where the queue of the jobs at least as urgent runs empty.
-      pub finish-law : finish table pattern job ≡ runsEmpty
-      unfolding horizon
-      finish-law = finish-empties runsEmpty emptied (omega (arith, empty-bound, latest-ready, less-work))
-        where
-          queue : FirstZero (left ρ ν (jobs table)) (ρ p) runsEmpty
-          queue = queue-empties ρ ν (jobs table) rises p (r .number-below job isJob) (omega (arith, same-need))
+    work-empties : FirstZero (work table pattern (atLeast table job)) (ready table job) (runsEmpty table pattern job)
+    unfolding runsEmpty
+    work-empties =
+        let queue = queue-empties (comesAt table) ν (jobs table) (comes-rising table) p turn-below (omega (arith, same-need)) in
+        let same = work-is-left table pattern (atLeast table job) (at-least-closed table job) in
+        record {
+          later = omega (arith, queue .later, same-ready);
+          zero = same (runsEmpty table pattern job) ∙ queue .zero;
+          before = λ t a b. omega (arith, same t, queue .before t (omega (arith, same-ready)) b);
+        }
 
-          same : (t : ℕ) → work table pattern (atLeast table job) t ≡ left ρ ν (jobs table) t
-          same = work-is-left table pattern (atLeast table job) (at-least-closed table job) at number r
+    -- The finish law: a job finishes where the queue of the jobs at least as urgent runs empty.
+    pub finish-law : finish table pattern job ≡ runsEmpty table pattern job
+    finish-law = finish-empties (runsEmpty table pattern job) work-empties empty-in-time
 
-          emptied : FirstZero (work table pattern (atLeast table job)) (ready table job) runsEmpty
-          emptied =
-              record {
-                later = omega (arith, queue .later, same-ready);
-                zero = same runsEmpty ∙ queue .zero;
-                before = λ t a b. omega (arith, same t, queue .before t (omega (arith, same-ready)) b);
-              }
+    -- The finish is at most the ready time and the work of the jobs at least as urgent.
+    pub finish-bound : finish table pattern job ≤ ready table job + workload table pattern job
+    finish-bound = omega (arith, finish-law, empty-bound)
 
-          latest-ready : ready table job ≤ greatest (jobs table) (ready table)
-          latest-ready = greatest-bounds (jobs table) (ready table) job isJob
+    -- Some slot meets the need, and the finish is one later.
+    pub finish-met : (t : ℕ) × (finish table pattern job ≡ suc t) × Meets t
+    finish-met = at (runsEmpty table pattern job) finish-law work-empties
+      where
+        at : (e : ℕ) → finish table pattern job ≡ e → FirstZero (work table pattern (atLeast table job)) (ready table job) e → (t : ℕ) × (finish table pattern job ≡ suc t) × Meets t
+        at zero f z = absurd (omega (arith, z .later))
+        at (suc t) f z =
+            let m = met-by (suc t) (leb-true _ _ (empty-met t (omega (arith, z .later)) (z .zero))) in
+            (m .0, f ∙ ap suc (last (m .0) (m .1) (m .2)), m .2)
+          where
+            last : (s : ℕ) → s < suc t → Meets s → t ≡ s
+            last s l m =
+                by-cases (ltb s t)
+                (λ k.
+                let r = waits-is table pattern s job (runs-is table pattern s job (m .runs) .has) .0 in
+                let empty = met-empty s (m .runs) (omega (arith, m .full)) in
+                absurd (omega (arith, z .before (suc s) (omega arith) (omega (arith, ltb-true s t k)))))
+                (λ k. omega (arith, ltb-false s t k))
 
-          less-work : workload ≤ total (jobs table) (need table pattern)
-          less-work =
-              total-le (jobs table) _ _ (λ i l. by-cases (atLeast table job i) (λ e. rw e (omega arith)) (λ e. rw e (omega arith)))
+  -- a job does not run once its need is met, so one slot at most meets it
+  not-after : (s t : ℕ) → Meets s → Meets t → s < t → ⊥
+  not-after s t a b l =
+      omega (
+        arith,
+        had-rises table pattern job (suc s) t l,
+        a .full,
+        waits-is table pattern t job (runs-is table pattern t job (b .runs) .has) .1,
+      )
 
-      -- The finish is at most the ready time and the work of the jobs at least as urgent.
-      pub finish-bound : finish table pattern job ≤ ready table job + workload
-      finish-bound = omega (arith, finish-law, empty-bound)
+  -- The finish of a job is t + 1 for the slot t that meets its need.
+  pub met-finish : (t : ℕ) → Meets t → finish table pattern job ≡ suc t
+  met-finish t m =
+      let f = finish-met (omega (arith, had-runs table pattern t job (m .runs), m .full)) in
+      f .1
+      ∙ ap suc
+      (by-cases (ltb (f .0) t)
+      (λ k. absurd (not-after (f .0) t (f .2) m (ltb-true _ _ k)))
+      (λ k.
+      by-cases (ltb t (f .0))
+      (λ j. absurd (not-after t (f .0) m (f .2) (ltb-true _ _ j)))
+      (λ j. omega (arith, ltb-false (f .0) t k, ltb-false t (f .0) j))))

@@ -1,8 +1,10 @@
 -- The laws of the slots: some job runs whenever one waits, and only one; what a job has had starts at zero, grows by one in each slot
 -- in which it runs, and is never more than it needs. Assumes nothing.
-use Prim.Native.Nat.{ℕ, zero, suc, _+_, _≤_, _<_}
+use Prim.Native.Nat.{ℕ, zero, suc, _+_, _≤_, _<_, zero-le}
+use native.Mathlib.Nat.{eq-or-lt-of-le, le-of-suc-le-suc, le-antisymm}
 use native.Mathlib.Omega.{arith}
 use mathlib.Core.Path.{_≡_, refl, sym, ap, _∙_}
+use mathlib.Core.Logic.{⊎-elim}
 use mathlib.Core.Bool.{Bool, true, false, not, cond, _&&_, true≢false, false≢true}
 use mathlib.Core.List.{List}
 use lib.Dec.{leb, ltb}
@@ -73,6 +75,14 @@ module _ (table pattern : List ℕ) where
   pub had-grows : (t job : ℕ) → had table pattern t job ≤ had table pattern (suc t) job
   had-grows t job =
       by-cases (runsAt t job) (λ r. omega (arith, had-runs t job r)) (λ r. omega (arith, had-stays t job r))
+
+  pub had-rises : (job s t : ℕ) → s ≤ t → had table pattern s job ≤ had table pattern t job
+  had-rises job s zero l = omega (arith, ap (λ u. had table pattern u job) (le-antisymm l zero-le))
+  had-rises job s (suc t) l =
+      ⊎-elim
+      (λ e. rw e (omega arith))
+      (λ k. omega (arith, had-grows t job, had-rises job s t (le-of-suc-le-suc k)))
+      (eq-or-lt-of-le l)
 
   pub had-within : (t job : ℕ) → had table pattern t job ≤ need table pattern job
   unfolding had

@@ -4,30 +4,60 @@
 -- by one, not below zero, whatever the order of service. That is the queue of the set's jobs in the order of their ready times
 -- (work-is-left). Assumes nothing.
 use Prim.Native.Nat.{ℕ, zero, suc, _+_, _-_, _≤_, _<_}
+use native.Mathlib.Nat.{eq-or-lt-of-le}
 use native.Mathlib.Omega.{arith}
 use mathlib.Core.Path.{_≡_, refl, sym, ap, _∙_}
+use mathlib.Core.Logic.{⊎-elim}
 use mathlib.Core.Bool.{Bool, true, false, not, cond, _&&_, true≢false, false≢true}
 use mathlib.Core.List.{List}
 use lib.Dec.{leb, ltb, eqb, leb·suc-suc}
 use borrow.Author.Tests.{ltb-true, ltb-false, lt-ltb, le-ltb, leb-true, leb-false, le-leb, lt-leb, eqb-true, eqb-false, eq-eqb, ne-eqb}
 use Rattle.jobs.specs.Below.{total, some}
 use Rattle.jobs.specs.Table.{jobs, ready}
-use Rattle.jobs.specs.Urgency.{urgent}
+use Rattle.jobs.specs.Urgency.{urgent, earlier, position, jobAt}
 use Rattle.jobs.proofs.Below.{by-cases, and-left, and-right, and-both, some-where, none-at, total-same, total-zero, total-add, total-falls, total-rearranged}
-use Rattle.jobs.proofs.Urgency.{StrictOrder, urgency-order}
+use Rattle.jobs.proofs.Urgency.{StrictOrder, urgency-order, earlier-order, earlier-ready-no-later}
+use Rattle.jobs.proofs.Orders.{Rearranges, rearranges}
 use Rattle.frame.specs.Schedule.{need, had}
 use Rattle.frame.proofs.Queue.{comes, left}
 use Rattle.frame.proofs.Slots.{waitsAt, runsAt, waits-is, is-waiting, runs-is, some-runs, one-runs, had-runs, had-stays, had-grows, had-unready}
 
-pub record Rearranges (n : ℕ) (at number : ℕ → ℕ) : Type 0 where
-  pub at-below : (q : ℕ) → q < n → at q < n
-  pub number-below : (j : ℕ) → j < n → number j < n
-  pub number-at : (q : ℕ) → q < n → number (at q) ≡ q
-  pub at-number : (j : ℕ) → j < n → at (number j) ≡ j
-
 -- a set of jobs that has with a job every more urgent one
 pub record Closed (table : List ℕ) (set : ℕ → Bool) : Type 0 where
   pub up : (i j : ℕ) → set j ≡ true → urgent table i j ≡ true → set i ≡ true
+
+-- ---- the jobs in the order of ready times
+
+module _ (table : List ℕ) where
+  -- the job at q in the order of ready times, when it is ready, and the place of a job in that order
+  abbrev pub arrival : ℕ → ℕ
+  arrival = jobAt (earlier table) (jobs table)
+
+  abbrev pub comesAt : ℕ → ℕ
+  comesAt q = ready table (arrival q)
+
+  abbrev pub turn : ℕ → ℕ
+  turn = position (earlier table) (jobs table)
+
+  pub arrivals : Rearranges (earlier table) (jobs table) arrival turn
+  arrivals = rearranges (earlier table) (earlier-order table) (jobs table)
+
+  pub comes-rising : (p q : ℕ) → p ≤ q → q < jobs table → comesAt p ≤ comesAt q
+  comes-rising p q l m =
+      ⊎-elim
+      (λ e. rw e (omega arith))
+      (λ k. earlier-ready-no-later table (arrival p) (arrival q) (arrivals .rising p q k m))
+      (eq-or-lt-of-le l)
+
+  pub in-order-of-ready : (g : ℕ → ℕ) → total (jobs table) (λ q. g (arrival q)) ≡ total (jobs table) g
+  in-order-of-ready g =
+      total-rearranged (jobs table) arrival turn g (arrivals .at-below) (arrivals .number-below) (arrivals .number-at) (arrivals .at-number)
+
+-- what the job at q brings, if it is of the set
+abbrev pub brings : List ℕ → List ℕ → (ℕ → Bool) → ℕ → ℕ
+brings table pattern set q = cond (set (arrival table q)) (need table pattern (arrival table q)) 0
+
+-- ---- the work of a set
 
 module _ (table pattern : List ℕ) (set : ℕ → Bool) where
   -- what a job of the set still needs
@@ -155,23 +185,13 @@ module _ (table pattern : List ℕ) (set : ℕ → Bool) where
         let none = none-at (jobs table) (λ job. set job && waitsAt table pattern t job) e in
         omega (arith, present-none t none, work-none t none))
 
-    -- The work left is what is left of the queue of the set's jobs in any order in which all of them are.
-    module _ (at number : ℕ → ℕ) (r : Rearranges (jobs table) at number) where
-      -- when the job at q is ready, and what it brings
-      abbrev pub comesAt : ℕ → ℕ
-      comesAt q = ready table (at q)
+    arrives-is-comes : (t : ℕ) → arrives t ≡ comes (comesAt table) (brings table pattern set) (jobs table) t
+    unfolding arrives comes
+    arrives-is-comes t =
+        sym (in-order-of-ready table (λ job. cond (eqb (ready table job) t) (cond (set job) (need table pattern job) 0) 0))
 
-      abbrev pub brings : ℕ → ℕ
-      brings q = cond (set (at q)) (need table pattern (at q)) 0
-
-      arrives-is-comes : (t : ℕ) → arrives t ≡ comes comesAt brings (jobs table) t
-      unfolding arrives comes
-      arrives-is-comes t =
-          sym
-          (total-rearranged (jobs table) at number (λ job. cond (eqb (ready table job) t) (cond (set job) (need table pattern job) 0) 0)
-          (r .at-below) (r .number-below) (r .number-at) (r .at-number))
-
-      pub work-is-left : (t : ℕ) → work t ≡ left comesAt brings (jobs table) t
-      unfolding left
-      work-is-left zero = work-start
-      work-is-left (suc t) = omega (arith, work-next t, present-is t, arrives-is-comes t, work-is-left t)
+    -- The work left is what is left of the queue of the set's jobs in the order of ready times.
+    pub work-is-left : (t : ℕ) → work t ≡ left (comesAt table) (brings table pattern set) (jobs table) t
+    unfolding left
+    work-is-left zero = work-start
+    work-is-left (suc t) = omega (arith, work-next t, present-is t, arrives-is-comes t, work-is-left t)

@@ -1,3 +1,4 @@
 pub mod Schedule
 pub mod Latest
 pub mod Delays
+pub mod Asks

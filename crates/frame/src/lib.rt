@@ -6,3 +6,9 @@ pub enum Verdict {
     Sound,
     Miss(Job, u32),
 }
+
+// A count of free slots, or the refusal.
+pub enum Free {
+    Slots(u32),
+    Refused { number: u32, place: usize },
+}
