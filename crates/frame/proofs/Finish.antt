@@ -16,8 +16,8 @@ use Rattle.jobs.proofs.Below.{by-cases, and-left, and-right, part-le-total, tot
 use Rattle.jobs.proofs.Urgency.{StrictOrder, urgency-order}
 use Rattle.frame.specs.Schedule.{need, had, horizon, finish}
 use Rattle.frame.proofs.Slots.{waitsAt, runsAt, waits-is, is-waiting, runs-is, had-runs, had-stays, had-rests, had-rises, had-within, had-unready}
-use Rattle.frame.proofs.Queue.{FirstZero, left, ends, tail, queue-empties, queue-bound}
-use Rattle.frame.proofs.Work.{Closed, owed, work, arrival, comesAt, turn, brings, arrivals, comes-rising, in-order-of-ready, work-is-left}
+use Rattle.frame.proofs.Queue.{FirstZero, left, ends, halts, queue-empties, queue-bound}
+use Rattle.frame.proofs.Work.{Closed, owed, work, arrival, comesAt, turn, brings, isOf, arrivals, comes-rising, in-order-of-ready, work-is-left}
 
 module _ (table : List ℕ) (job : ℕ) where
   -- the jobs at least as urgent as this one
@@ -38,11 +38,15 @@ module _ (table : List ℕ) (job : ℕ) where
           (λ v. absurd (true≢false (sym (urgency-order table .transitive job i j v u) ∙ not-true _ s)))
           (λ v. rw v)
 
--- where the queue of the jobs at least as urgent, in the order of ready times, runs empty after this job came
+-- whether the job at q, in the order of ready times, is at least as urgent
+abbrev pub urgentAt : List ℕ → ℕ → ℕ → Bool
+urgentAt table job = isOf table (atLeast table job)
+
+-- where the queue of the jobs at least as urgent runs empty after this job came
 unfoldable pub runsEmpty : List ℕ → List ℕ → ℕ → ℕ
 runsEmpty table pattern job =
-    tail (comesAt table) (brings table pattern (atLeast table job)) (jobs table - suc (turn table job)) (suc (turn table job))
-    (ends (comesAt table) (brings table pattern (atLeast table job)) (suc (turn table job)))
+    ends (comesAt table) (brings table pattern) (urgentAt table job)
+    (least (jobs table) (halts (comesAt table) (brings table pattern) (urgentAt table job) (turn table job)))
 
 -- the work of the jobs at least as urgent
 unfoldable pub workload : List ℕ → List ℕ → ℕ → ℕ
@@ -129,10 +133,7 @@ module _ (table pattern : List ℕ) (job : ℕ) (isJob : job < jobs table) where
         before : (s : ℕ) → s < t → met s ≡ false
         before s l = by-cases (met s) (λ m. absurd (too-early s l (leb-true _ _ m))) (λ m. m)
 
-    -- the queue of the jobs at least as urgent, in the order of ready times, and this job's turn in it
-    abbrev ν : ℕ → ℕ
-    ν = brings table pattern (atLeast table job)
-
+    -- this job's turn in the order of ready times
     abbrev p : ℕ
     p = turn table job
 
@@ -145,15 +146,18 @@ module _ (table pattern : List ℕ) (job : ℕ) (isJob : job < jobs table) where
     same-ready : comesAt table p ≡ ready table job
     same-ready = ap (ready table) own-turn
 
-    same-need : ν p ≡ need table pattern job
-    same-need = rw (own-turn, at-least-itself table job)
+    same-need : brings table pattern p ≡ need table pattern job
+    same-need = ap (need table pattern) own-turn
+
+    own-on : urgentAt table job p ≡ true
+    own-on = rw own-turn (at-least-itself table job)
 
     empty-bound : runsEmpty table pattern job ≤ ready table job + workload table pattern job
     unfolding workload runsEmpty
     empty-bound =
         omega (
           arith,
-          queue-bound (comesAt table) ν (jobs table) (comes-rising table) p turn-below,
+          queue-bound (comesAt table) (brings table pattern) (urgentAt table job) (jobs table) (comes-rising table) p own-on turn-below (omega (arith, same-need)),
           same-ready,
           in-order-of-ready table (λ i. cond (atLeast table job i) (need table pattern i) 0),
         )
@@ -172,7 +176,7 @@ module _ (table pattern : List ℕ) (job : ℕ) (isJob : job < jobs table) where
     work-empties : FirstZero (work table pattern (atLeast table job)) (ready table job) (runsEmpty table pattern job)
     unfolding runsEmpty
     work-empties =
-        let queue = queue-empties (comesAt table) ν (jobs table) (comes-rising table) p turn-below (omega (arith, same-need)) in
+        let queue = queue-empties (comesAt table) (brings table pattern) (urgentAt table job) (jobs table) (comes-rising table) p own-on turn-below (omega (arith, same-need)) in
         let same = work-is-left table pattern (atLeast table job) (at-least-closed table job) in
         record {
           later = omega (arith, queue .later, same-ready);

@@ -1,20 +1,20 @@
 -- A queue of arrivals, and where it runs empty.
 --
--- Arrival q brings work ν q at time ρ q, and arrivals come in the order of their times. One slot takes one unit off what is left. What is
--- left does not depend on the order of service, so the queue served first come first served gives it: `ends p` is when the first p
--- arrivals are served, and with all of them come, `ends p ∸ t` is left (queue-left). From an arrival on, the queue runs empty where the
--- walk `tail` stops (tail-empties).
+-- Arrival q, if it is on, brings work ν q at time ρ q, and arrivals come in the order of their times. One slot takes one unit off what is
+-- left. What is left does not depend on the order of service, so the queue served first come first served gives it: `ends p` is when the
+-- first p arrivals are served, and with all of them come, `ends p ∸ t` is left (queue-left). After an arrival comes, the queue is first
+-- empty where the next arrival finds all before it served (queue-empties).
 --
 -- In order: definitions; one arrival more; what is left; where it runs empty; a bound. Assumes nothing.
 use Prim.Native.Nat.{ℕ, zero, suc, _+_, _-_, _≤_, _<_, max}
-use native.Mathlib.Nat.{add-zero, add-suc, suc-add, add-sub-of-le}
+use native.Mathlib.Nat.{add-zero, add-suc, add-sub-of-le}
 use native.Mathlib.Omega.{arith}
-use mathlib.Core.Path.{_≡_, refl, sym, ap, _∙_}
-use mathlib.Core.Bool.{Bool, true, false, cond}
+use mathlib.Core.Path.{_≡_, refl, sym, ap, _∙_, subst}
+use mathlib.Core.Bool.{Bool, true, false, cond, _&&_, true≢false}
 use lib.Dec.{leb, ltb, eqb}
-use borrow.Author.Tests.{ltb-true, ltb-false, leb-true, leb-false, eq-eqb, ne-eqb, le-leb, lt-leb}
-use Rattle.jobs.specs.Below.{total}
-use Rattle.jobs.proofs.Below.{by-cases, below-suc, total-more, total-zero}
+use borrow.Author.Tests.{ltb-true, ltb-false, lt-ltb, le-ltb, leb-true, leb-false, le-leb, eqb-true, eq-eqb, ne-eqb}
+use Rattle.jobs.specs.Below.{total, least}
+use Rattle.jobs.proofs.Below.{by-cases, and-left, and-right, below-suc, total-more, total-zero, least-le, least-holds, before-least, least-cases}
 
 -- e is the first time after r at which g is zero
 pub record FirstZero (g : ℕ → ℕ) (r e : ℕ) : Type 0 where
@@ -22,10 +22,10 @@ pub record FirstZero (g : ℕ → ℕ) (r e : ℕ) : Type 0 where
   pub zero : g e ≡ 0
   pub before : (t : ℕ) → r < t → t < e → 0 < g t
 
-module _ (ρ ν : ℕ → ℕ) where
+module _ (ρ ν : ℕ → ℕ) (on : ℕ → Bool) where
   -- the work that comes at time t, of the first p arrivals
   unfoldable pub comes : ℕ → ℕ → ℕ
-  comes p t = total p (λ q. cond (eqb (ρ q) t) (ν q) 0)
+  comes p t = total p (λ q. cond (on q && eqb (ρ q) t) (ν q) 0)
 
   -- the work that is left at time t, of the first p arrivals and before what comes at t
   unfoldable pub left : ℕ → ℕ → ℕ
@@ -35,163 +35,241 @@ module _ (ρ ν : ℕ → ℕ) where
   -- when the first p arrivals are served, first come first served
   unfoldable pub ends : ℕ → ℕ
   ends zero = 0
-  ends (suc p) = max (ends p) (ρ p) + ν p
+  ends (suc p) = cond (on p) (max (ends p) (ρ p) + ν p) (ends p)
 
-  -- where the queue runs empty that is served until e when the arrivals from p on are still to come, d of them
-  unfoldable pub tail : ℕ → ℕ → ℕ → ℕ
-  tail zero p e = e
-  tail (suc d) p e = let more = tail d (suc p) (e + ν p) in cond (leb e (ρ p)) e more
+  -- arrival p, after arrival own, finds all before it served
+  unfoldable pub halts : ℕ → ℕ → Bool
+  halts own p = ltb own p && on p && leb (ends p) (ρ p)
 
   -- ---- one arrival more
 
-  comes-now : (p : ℕ) → comes (suc p) (ρ p) ≡ comes p (ρ p) + ν p
-  unfolding comes total
-  comes-now p = rw (eq-eqb (ρ p) (ρ p) refl)
-
-  comes-not-now : (p t : ℕ) → (ρ p ≡ t → ⊥) → comes (suc p) t ≡ comes p t
-  unfolding comes total
-  comes-not-now p t d = rw (ne-eqb (ρ p) t d) (omega arith)
-
-  comes-none : (p t : ℕ) → ((q : ℕ) → q < p → ρ q < t) → comes p t ≡ 0
+  comes-none : (p t : ℕ) → ((q : ℕ) → q < p → on q ≡ true → ρ q ≡ t → ⊥) → comes p t ≡ 0
   unfolding comes
-  comes-none p t h = total-zero p _ (λ q l. rw (ne-eqb (ρ q) t (λ e. omega (arith, h q l))))
+  comes-none p t h =
+      total-zero p _
+      (λ q l.
+      by-cases (on q && eqb (ρ q) t)
+      (λ e. absurd (h q l (and-left _ _ e) (eqb-true (ρ q) t (and-right (on q) _ e))))
+      (λ e. rw e))
+
+  comes-now : (p : ℕ) → on p ≡ true → comes (suc p) (ρ p) ≡ comes p (ρ p) + ν p
+  unfolding comes total
+  comes-now p o = rw (o, eq-eqb (ρ p) (ρ p) refl)
+
+  comes-not-now : (p t : ℕ) → (on p ≡ true → ρ p ≡ t → ⊥) → comes (suc p) t ≡ comes p t
+  unfolding comes total
+  comes-not-now p t h =
+      by-cases (on p && eqb (ρ p) t)
+      (λ e. absurd (h (and-left _ _ e) (eqb-true (ρ p) t (and-right (on p) _ e))))
+      (λ e. rw e (omega arith))
 
   comes-more : (p t : ℕ) → comes p t ≤ comes (suc p) t
   unfolding comes total
   comes-more p t = omega arith
 
-  -- until it comes, an arrival changes nothing
-  left-until : (p t : ℕ) → t ≤ ρ p → left (suc p) t ≡ left p t
+  -- until it comes, an arrival changes nothing, and one that is not on never does
+  left-until : (p t : ℕ) → (on p ≡ true → t ≤ ρ p) → left (suc p) t ≡ left p t
   unfolding left
   left-until p zero h = refl
-  left-until p (suc t) h = omega (arith, left-until p t (omega arith), comes-not-now p t (λ e. omega arith))
+  left-until p (suc t) h =
+      omega (arith, left-until p t (λ o. omega (arith, h o)), comes-not-now p t (λ o e. omega (arith, h o)))
 
   left-more : (p t : ℕ) → left p t ≤ left (suc p) t
   unfolding left
   left-more p zero = omega arith
   left-more p (suc t) = omega (arith, left-more p t, comes-more p t)
 
+  left-all : (p d t : ℕ) → left p t ≤ left (p + d) t
+  left-all p zero t = rw add-zero (omega arith)
+  left-all p (suc d) t = rw add-suc (omega (arith, left-all p d t, left-more (p + d) t))
+
   left-nothing : (t : ℕ) → left 0 t ≡ 0
   unfolding left comes total
   left-nothing zero = refl
   left-nothing (suc t) = omega (arith, left-nothing t)
 
-  left-all : (p d t : ℕ) → left p t ≤ left (p + d) t
-  left-all p zero t = rw add-zero (omega arith)
-  left-all p (suc d) t = rw add-suc (omega (arith, left-all p d t, left-more (p + d) t))
-
   -- ---- what is left
 
   -- with one arrival more come, d slots after it came
-  queue-step : (p d : ℕ) → left p (ρ p) + comes p (ρ p) ≡ ends p - ρ p → ((q : ℕ) → q < p → ρ q ≤ ρ p)
+  queue-step : (p d : ℕ) → on p ≡ true → left p (ρ p) + comes p (ρ p) ≡ ends p - ρ p → ((q : ℕ) → q < p → on q ≡ true → ρ q ≤ ρ p)
       → left (suc p) (ρ p + d) + comes (suc p) (ρ p + d) ≡ ends (suc p) - (ρ p + d)
   unfolding ends left
-  queue-step p zero ih h = rw add-zero (omega (arith, left-until p (ρ p) (omega arith), comes-now p))
-  queue-step p (suc d) ih h = rw add-suc (omega (arith, queue-step p d ih h, comes-none (suc p) (suc (ρ p + d)) come))
+  queue-step p zero o ih h = rw (add-zero (ρ p), o) (omega (arith, left-until p (ρ p) (λ _. omega arith), comes-now p o))
+  queue-step p (suc d) o ih h =
+      rw add-suc (omega (arith, queue-step p d o ih h, comes-none (suc p) (suc (ρ p + d)) come))
     where
-      come : (q : ℕ) → q < suc p → ρ q < suc (ρ p + d)
-      come q l = below-suc l (λ k. omega (arith, h q k)) (λ e. omega (arith, ap ρ e))
+      come : (q : ℕ) → q < suc p → on q ≡ true → ρ q ≡ suc (ρ p + d) → ⊥
+      come q l i e = below-suc l (λ k. omega (arith, h q k i)) (λ k. omega (arith, ap ρ k))
 
   module _ (n : ℕ) (rises : (p q : ℕ) → p ≤ q → q < n → ρ p ≤ ρ q) where
     -- with the first p arrivals come, what is left of them is what the queue served in their order has left
-    pub queue-left : (p t : ℕ) → p ≤ n → ((q : ℕ) → q < p → ρ q ≤ t) → left p t + comes p t ≡ ends p - t
+    pub queue-left : (p t : ℕ) → p ≤ n → ((q : ℕ) → q < p → on q ≡ true → ρ q ≤ t) → left p t + comes p t ≡ ends p - t
     unfolding ends
     queue-left zero t l h = omega (arith, left-nothing t, comes-none 0 t (λ q k. absurd (omega arith)))
     queue-left (suc p) t l h =
-        rw (sym (add-sub-of-le (h p (omega arith))))
-        (queue-step p (t - ρ p) (queue-left p (ρ p) (omega arith) before) before)
+        by-cases (on p)
+        (λ o.
+        let come = h p (omega arith) o in
+        rw (sym (add-sub-of-le come))
+        (queue-step p (t - ρ p) o (queue-left p (ρ p) (omega arith) before) before))
+        (λ o.
+        let never : (on p ≡ true → ⊥) = λ i. true≢false (sym i ∙ o) in
+        rw (left-until p t (λ i. absurd (never i)), comes-not-now p t (λ i e. never i), o)
+        (queue-left p t (omega arith) (λ q k. h q (omega arith))))
       where
-        before : (q : ℕ) → q < p → ρ q ≤ ρ p
-        before q k = rises q p (omega arith) (omega arith)
+        before : (q : ℕ) → q < p → on q ≡ true → ρ q ≤ ρ p
+        before q k i = rises q p (omega arith) (omega arith)
+
+    -- the same at a time when nothing comes
+    pub left-after : (p t : ℕ) → p ≤ n → ((q : ℕ) → q < p → on q ≡ true → ρ q < t) → left p t ≡ ends p - t
+    left-after p t l h =
+        omega (arith, queue-left p t l (λ q k o. omega (arith, h q k o)), comes-none p t (λ q k o e. omega (arith, h q k o)))
 
     -- until arrival p comes, it and all later ones change nothing
-    left-rest : (p d t : ℕ) → p + d ≤ n → (0 < d → t ≤ ρ p) → left (p + d) t ≡ left p t
+    pub left-rest : (p d t : ℕ) → p + d ≤ n → (0 < d → t ≤ ρ p) → left (p + d) t ≡ left p t
     left-rest p zero t l h = rw add-zero
     left-rest p (suc d) t l h =
         rw add-suc
-        (left-until (p + d) t (omega (arith, h (omega arith), rises p (p + d) (omega arith) (omega arith)))
+        (left-until (p + d) t (λ _. omega (arith, h (omega arith), rises p (p + d) (omega arith) (omega arith)))
         ∙ left-rest p d t (omega arith) (λ k. h (omega arith)))
-
-    -- the same at a time when nothing comes
-    pub left-after : (p t : ℕ) → p ≤ n → ((q : ℕ) → q < p → ρ q < t) → left p t ≡ ends p - t
-    left-after p t l h = omega (arith, queue-left p t l (λ q k. omega (arith, h q k)), comes-none p t h)
 
     -- ---- where it runs empty
 
-    module _ (p r d : ℕ) (e : p + suc d ≡ n) (l : r < ends p) (h : (q : ℕ) → q < p → ρ q < ends p) (b : (t : ℕ) → r < t → t < ends p → 0 < left n t) where
-      tail-stops : ends p ≤ ρ p → FirstZero (left n) r (ends p)
-      tail-stops k =
+    module _ (own : ℕ) (is-on : on own ≡ true) (below : own < n) (brings-work : 0 < ν own) where
+      -- where the queue halts
+      abbrev last : ℕ
+      last = least n (halts own)
+
+      own-before-last : own < last
+      unfolding halts
+      own-before-last =
+          least-cases n (halts own)
+          (λ l h. ltb-true _ _ (and-left (ltb own last) (on last) (and-left (ltb own last && on last) _ h)))
+          (λ e. omega arith)
+
+      -- between them every arrival finds the queue still served
+      still-served : (p : ℕ) → own < p → p < last → on p ≡ true → ρ p < ends p
+      unfolding halts
+      still-served p l m o =
+          by-cases (leb (ends p) (ρ p))
+          (λ h. absurd (true≢false (and-true (lt-ltb own p l) o h)))
+          (λ h. leb-false _ _ h)
+        where
+          and-true : ltb own p ≡ true → on p ≡ true → leb (ends p) (ρ p) ≡ true → true ≡ false
+          and-true a b c = sym (rw (a, b, c)) ∙ before-least n (halts own) p m
+
+      -- after arrival p every arrival before came before the end, and until the end work is left
+      record Serves (p : ℕ) : Type 0 where
+        later : ρ own < ends p
+        come : (q : ℕ) → q < p → on q ≡ true → ρ q < ends p
+        busy : (t : ℕ) → ρ own < t → t < ends p → 0 < left n t
+
+      left-by : (p t : ℕ) → p ≤ n → left p t ≤ left n t
+      left-by p t l = rw (sym (add-sub-of-le l)) (left-all p (n - p) t)
+
+      ends-on : (p : ℕ) → on p ≡ true → ends (suc p) ≡ max (ends p) (ρ p) + ν p
+      unfolding ends
+      ends-on p o = rw o
+
+      ends-off : (p : ℕ) → on p ≡ false → ends (suc p) ≡ ends p
+      unfolding ends
+      ends-off p o = rw o
+
+      serves-own : Serves (suc own)
+      serves-own =
+          let e = ends-on own is-on in
           record {
-            later = l;
-            zero = ap (λ m. left m (ends p)) (sym e) ∙ left-rest p (suc d) (ends p) (omega arith) (λ _. k) ∙ rw (left-after p (ends p) (omega arith) h) (omega arith);
-            before = b;
+            later = omega arith;
+            come = λ q k o. omega (arith, rises q own (omega arith) below);
+            busy =
+                λ t i j.
+                omega (
+                  arith,
+                  left-by (suc own) t below,
+                  left-after (suc own) t below (λ q k o. omega (arith, rises q own (omega arith) below)),
+                );
           }
 
-      -- the queue is still served when arrival p comes
-      module _ (k : ρ p < ends p) where
-        next-ends : ends (suc p) ≡ ends p + ν p
-        unfolding ends
-        next-ends = omega arith
+      -- one arrival more before the queue halts
+      serves-more : (p : ℕ) → own < p → p < last → Serves p → Serves (suc p)
+      serves-more p l m s =
+          by-cases (on p)
+          (λ o.
+          let k = still-served p l m o in
+          let e = ends-on p o in
+          let below-end : suc p ≤ n = omega (arith, least-le n (halts own)) in
+          let come : ((q : ℕ) → q < suc p → on q ≡ true → ρ q < ends p) = λ q i u. below-suc i (λ v. s .come q v u) (λ v. omega (arith, ap ρ v)) in
+          record {
+            later = omega (arith, s .later);
+            come = λ q i u. omega (arith, come q i u);
+            busy =
+                λ t i j.
+                by-cases (ltb t (ends p))
+                (λ c. s .busy t i (ltb-true _ _ c))
+                (λ c.
+                omega (
+                  arith,
+                  ltb-false t (ends p) c,
+                  left-by (suc p) t below-end,
+                  left-after (suc p) t below-end (λ q v u. omega (arith, come q v u, ltb-false t (ends p) c)),
+                ));
+          })
+          (λ o.
+          let e = ends-off p o in
+          record {
+            later = omega (arith, s .later);
+            come = λ q i u. below-suc i (λ v. omega (arith, s .come q v u)) (λ v. absurd (true≢false (sym u ∙ ap on v ∙ o)));
+            busy = λ t i j. s .busy t i (omega arith);
+          })
 
-        next-come : (q : ℕ) → q < suc p → ρ q < ends (suc p)
-        next-come q m = below-suc m (λ i. omega (arith, h q i, next-ends)) (λ i. omega (arith, ap ρ i, next-ends))
+      serves : (p : ℕ) → own < p → p ≤ last → Serves p
+      serves zero l m = absurd (omega arith)
+      serves (suc p) l m =
+          below-suc l (λ k. serves-more p k m (serves p k (omega arith))) (λ e. subst (λ (q : ℕ). Serves (suc q)) e serves-own)
 
-        next-before : (t : ℕ) → r < t → t < ends (suc p) → 0 < left n t
-        next-before t i j =
-            by-cases (ltb t (ends p))
-            (λ c. b t i (ltb-true _ _ c))
-            (λ c.
-            let past : ends p ≤ t = ltb-false _ _ c in
-            let here = left-after (suc p) t (omega arith) (λ q m. below-suc m (λ u. omega (arith, h q u)) (λ u. omega (arith, ap ρ u))) in
-            let all : left (suc p) t ≤ left n t = rw (sym (sym (suc-add-suc p d) ∙ e)) (left-all (suc p) d t) in
-            omega arith)
-          where
-            suc-add-suc : (a c : ℕ) → a + suc c ≡ suc a + c
-            suc-add-suc a c = omega arith
+      -- After an arrival that brings work, the queue is first empty where it halts.
+      pub queue-empties : FirstZero (left n) (ρ own) (ends last)
+      unfolding halts
+      queue-empties =
+          let s = serves last own-before-last (omega arith) in
+          let here = left-after last (ends last) (least-le n (halts own)) (s .come) in
+          record {
+            later = s .later;
+            zero =
+                least-cases n (halts own)
+                (λ l h.
+                let halted : ends last ≤ ρ last = leb-true _ _ (and-right (ltb own last && on last) _ h) in
+                ap (λ m. left m (ends last)) (sym (add-sub-of-le (least-le n (halts own))))
+                ∙ left-rest last (n - last) (ends last) (omega (arith, least-le n (halts own))) (λ _. halted)
+                ∙ omega arith)
+                (λ e. ap (λ m. left m (ends last)) (sym e) ∙ omega arith);
+            before = s .busy;
+          }
 
-    tail-empties : (d p r : ℕ) → p + d ≡ n → r < ends p → ((q : ℕ) → q < p → ρ q < ends p) → ((t : ℕ) → r < t → t < ends p → 0 < left n t)
-        → FirstZero (left n) r (tail d p (ends p))
-    unfolding tail
-    tail-empties zero p r e l h b =
-        record { later = l; zero = rw (sym e, add-zero p) (omega (arith, left-after p (ends p) (omega arith) h)); before = b }
-    tail-empties (suc d) p r e l h b =
-        by-cases (leb (ends p) (ρ p))
-        (λ stops. rw stops (tail-stops p r d e l h b (leb-true _ _ stops)))
-        (λ goes.
-        let k = leb-false _ _ goes in
-        let on = next-ends p r d e l h b k in
-        rw (goes, sym on)
-        (tail-empties d (suc p) r (omega arith) (omega arith) (next-come p r d e l h b k) (next-before p r d e l h b k)))
+      -- ---- a bound
 
-    -- From an arrival that brings work, the queue is first empty where its tail ends.
-    pub queue-empties : (p : ℕ) → p < n → 0 < ν p → FirstZero (left n) (ρ p) (tail (n - suc p) (suc p) (ends (suc p)))
-    unfolding ends
-    queue-empties p l w = tail-empties (n - suc p) (suc p) (ρ p) (omega arith) (omega arith) come still
-      where
-        come : (q : ℕ) → q < suc p → ρ q < ends (suc p)
-        come q k = omega (arith, rises q p (omega arith) l)
+      -- the work of the first p arrivals
+      abbrev all-work : ℕ → ℕ
+      all-work p = total p (λ q. cond (on q) (ν q) 0)
 
-        still : (t : ℕ) → ρ p < t → t < ends (suc p) → 0 < left n t
-        still t i j =
-            let here = left-after (suc p) t (omega arith) (λ q k. omega (arith, rises q p (omega arith) l)) in
-            let all : left (suc p) t ≤ left n t = rw (sym (add-sub-of-le l)) (left-all (suc p) (n - suc p) t) in
-            omega arith
+      ends-bound : (p b : ℕ) → ((q : ℕ) → q < p → ρ q ≤ b) → ends p ≤ b + all-work p
+      unfolding ends total
+      ends-bound zero b h = omega arith
+      ends-bound (suc p) b h =
+          let ih = ends-bound p b (λ q k. h q (omega arith)) in
+          by-cases (on p) (λ o. rw o (omega (arith, h p (omega arith)))) (λ o. rw o (omega arith))
 
-    -- ---- a bound
+      bound : (p : ℕ) → own < p → p ≤ last → ends p ≤ ρ own + all-work p
+      unfolding total
+      bound zero l m = absurd (omega arith)
+      bound (suc p) l m =
+          below-suc l
+          (λ k.
+          by-cases (on p)
+          (λ o. rw o (omega (arith, ends-on p o, still-served p k m o, bound p k (omega arith))))
+          (λ o. rw o (omega (arith, ends-off p o, bound p k (omega arith)))))
+          (λ e. ends-bound (suc p) (ρ own) (λ q k. rises q own (omega arith) below))
 
-    tail-bound : (d p e b : ℕ) → p + d ≡ n → e ≤ b + total p ν → tail d p e ≤ b + total n ν
-    unfolding tail total
-    tail-bound zero p e b l h = omega (arith, total-more ν p n (omega arith))
-    tail-bound (suc d) p e b l h =
-        by-cases (leb e (ρ p))
-        (λ stops. rw stops (omega (arith, total-more ν p n (omega arith))))
-        (λ goes. rw goes (tail-bound d (suc p) (e + ν p) b (omega arith) (omega arith)))
-
-    ends-bound : (p b : ℕ) → ((q : ℕ) → q < p → ρ q ≤ b) → ends p ≤ b + total p ν
-    unfolding ends total
-    ends-bound zero b h = omega arith
-    ends-bound (suc p) b h = omega (arith, ends-bound p b (λ q k. h q (omega arith)), h p (omega arith))
-
-    -- It is empty no later than after the arrival itself and the work of all.
-    pub queue-bound : (p : ℕ) → p < n → tail (n - suc p) (suc p) (ends (suc p)) ≤ ρ p + total n ν
-    queue-bound p l = tail-bound (n - suc p) (suc p) (ends (suc p)) (ρ p) (omega arith) (ends-bound (suc p) (ρ p) (λ q k. rises q p (omega arith) l))
+      -- It is empty no later than after the arrival itself and the work of all.
+      pub queue-bound : ends last ≤ ρ own + total n (λ q. cond (on q) (ν q) 0)
+      queue-bound = omega (arith, bound last own-before-last (omega arith), total-more (λ q. cond (on q) (ν q) 0) last n (least-le n (halts own)))

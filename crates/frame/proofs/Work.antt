@@ -53,9 +53,13 @@ module _ (table : List ℕ) where
   in-order-of-ready g =
       total-rearranged (jobs table) arrival turn g (arrivals .at-below) (arrivals .number-below) (arrivals .number-at) (arrivals .at-number)
 
--- what the job at q brings, if it is of the set
-abbrev pub brings : List ℕ → List ℕ → (ℕ → Bool) → ℕ → ℕ
-brings table pattern set q = cond (set (arrival table q)) (need table pattern (arrival table q)) 0
+-- what the job at q brings
+abbrev pub brings : List ℕ → List ℕ → ℕ → ℕ
+brings table pattern q = need table pattern (arrival table q)
+
+-- whether the job at q is of the set
+abbrev pub isOf : List ℕ → (ℕ → Bool) → ℕ → Bool
+isOf table set q = set (arrival table q)
 
 -- ---- the work of a set
 
@@ -74,11 +78,11 @@ module _ (table pattern : List ℕ) (set : ℕ → Bool) where
 
   -- the work that becomes ready at t
   unfoldable pub arrives : ℕ → ℕ
-  arrives t = total (jobs table) (λ job. cond (eqb (ready table job) t) (cond (set job) (need table pattern job) 0) 0)
+  arrives t = total (jobs table) (λ job. cond (set job && eqb (ready table job) t) (need table pattern job) 0)
 
   part-present : (t job : ℕ)
       → cond (set job && leb (ready table job) t) (owed t job) 0
-      ≡ cond (set job && ltb (ready table job) t) (owed t job) 0 + cond (eqb (ready table job) t) (cond (set job) (need table pattern job) 0) 0
+      ≡ cond (set job && ltb (ready table job) t) (owed t job) 0 + cond (set job && eqb (ready table job) t) (need table pattern job) 0
   part-present t job =
       by-cases (set job)
       (λ s.
@@ -94,14 +98,14 @@ module _ (table pattern : List ℕ) (set : ℕ → Bool) where
       (by-cases (leb (ready table job) t)
       (λ l. rw (l, lt-ltb (ready table job) t (omega (arith, leb-true (ready table job) t l))) (omega arith))
       (λ l. rw (l, le-ltb (ready table job) t (omega (arith, leb-false (ready table job) t l))))))))
-      (λ s. rw s (by-cases (eqb (ready table job) t) (λ e. rw e) (λ e. rw e)))
+      (λ s. rw s)
 
   pub present-is : (t : ℕ) → present t ≡ work t + arrives t
   unfolding present work arrives
   present-is t =
       total-same (jobs table) _ _ (λ job l. part-present t job)
       ∙ total-add (jobs table) (λ job. cond (set job && ltb (ready table job) t) (owed t job) 0)
-      (λ job. cond (eqb (ready table job) t) (cond (set job) (need table pattern job) 0) 0)
+      (λ job. cond (set job && eqb (ready table job) t) (need table pattern job) 0)
 
   work-start : work 0 ≡ 0
   unfolding work
@@ -185,13 +189,13 @@ module _ (table pattern : List ℕ) (set : ℕ → Bool) where
         let none = none-at (jobs table) (λ job. set job && waitsAt table pattern t job) e in
         omega (arith, present-none t none, work-none t none))
 
-    arrives-is-comes : (t : ℕ) → arrives t ≡ comes (comesAt table) (brings table pattern set) (jobs table) t
+    arrives-is-comes : (t : ℕ) → arrives t ≡ comes (comesAt table) (brings table pattern) (isOf table set) (jobs table) t
     unfolding arrives comes
     arrives-is-comes t =
-        sym (in-order-of-ready table (λ job. cond (eqb (ready table job) t) (cond (set job) (need table pattern job) 0) 0))
+        sym (in-order-of-ready table (λ job. cond (set job && eqb (ready table job) t) (need table pattern job) 0))
 
     -- The work left is what is left of the queue of the set's jobs in the order of ready times.
-    pub work-is-left : (t : ℕ) → work t ≡ left (comesAt table) (brings table pattern set) (jobs table) t
+    pub work-is-left : (t : ℕ) → work t ≡ left (comesAt table) (brings table pattern) (isOf table set) (jobs table) t
     unfolding left
     work-is-left zero = work-start
     work-is-left (suc t) = omega (arith, work-next t, present-is t, arrives-is-comes t, work-is-left t)
