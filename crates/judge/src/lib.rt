@@ -1,0 +1,1 @@
+// The judge: latest finishes over all patterns of at most k faults, the verdict, and patterns that reach a latest finish.
