@@ -48,6 +48,9 @@ pub first-append : (xs ys : List Check) → first (xs ++ ys) ≡ after (first xs
 first-append [] ys = refl
 first-append (x ∷ xs) ys = ap (after x) (first-append xs ys) ∙ sym (after-after x (first xs) (first ys))
 
+pub fine-append : (xs ys : List Check) → first (xs ++ ys) ≡ Fine → (first xs ≡ Fine) × (first ys ≡ Fine)
+fine-append xs ys e = after-fine (first xs) (first ys) (sym (first-append xs ys) ∙ e)
+
 -- ---- a table that is not refused
 
 -- The length is a multiple of four, the jobs are at most 64, and each field of each job is in its range.
