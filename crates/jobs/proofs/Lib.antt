@@ -1,5 +1,6 @@
 pub mod Below
 pub mod Table
 pub mod Urgency
-pub mod Orders
 pub mod Refusals
+pub mod Placed
+pub mod Orders

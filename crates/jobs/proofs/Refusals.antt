@@ -20,8 +20,8 @@ use Rattle.jobs.proofs.Table.{badWord}
 
 -- ---- one condition
 
-pub fine-not-refused : {number place : ℕ} → Refused number place ≡ Fine → ⊥
-fine-not-refused e = let z : _≡_ {A = ℕ} 0 1 = cc in omega arith
+pub refused-not-fine : {number place : ℕ} → Refused number place ≡ Fine → ⊥
+refused-not-fine e = let z : _≡_ {A = ℕ} 0 1 = cc in omega arith
 
 pub given-when : {test : Bool} (number place : ℕ) → test ≡ true → given test number place ≡ Refused number place
 given-when number place e = rw e
@@ -31,14 +31,14 @@ given-unless number place e = rw e
 
 -- what is fine was not given
 pub not-given : (test : Bool) (number place : ℕ) → given test number place ≡ Fine → test ≡ false
-not-given true number place e = absurd (fine-not-refused e)
+not-given true number place e = absurd (refused-not-fine e)
 not-given false number place e = refl
 
 -- ---- the first of several
 
 pub after-fine : (a b : Check) → after a b ≡ Fine → (a ≡ Fine) × (b ≡ Fine)
 after-fine Fine b e = (refl, e)
-after-fine (Refused number place) b e = absurd (fine-not-refused e)
+after-fine (Refused number place) b e = absurd (refused-not-fine e)
 
 pub after-after : (a b c : Check) → after (after a b) c ≡ after a (after b c)
 after-after Fine b c = refl
@@ -47,6 +47,9 @@ after-after (Refused number place) b c = refl
 pub first-append : (xs ys : List Check) → first (xs ++ ys) ≡ after (first xs) (first ys)
 first-append [] ys = refl
 first-append (x ∷ xs) ys = ap (after x) (first-append xs ys) ∙ sym (after-after x (first xs) (first ys))
+
+pub fine-append : (xs ys : List Check) → first (xs ++ ys) ≡ Fine → (first xs ≡ Fine) × (first ys ≡ Fine)
+fine-append xs ys e = after-fine (first xs) (first ys) (sym (first-append xs ys) ∙ e)
 
 -- ---- a table that is not refused
 
