@@ -1,6 +1,9 @@
 -- One step of the row: for each count w of faults the latest end of the work so far. The private functions compute by it; no promise
 -- of an ask rests on it.
-use Prim.Native.Nat.{ℕ, zero, suc, _+_, max}
+use Prim.Native.Nat.{ℕ, zero, suc, _+_, _^_, _<_, max}
+use mathlib.Core.Path.{_≡_}
+use mathlib.Core.List.{List}
+use lib.ListN.{length, getD}
 use mathlib.Core.Bool.{Bool, true, false, cond}
 use lib.Dec.{leb}
 
@@ -23,3 +26,16 @@ spread v first (suc w) = max (first (suc w)) (again v (spread v first w))
 unfoldable pub picks : ℕ → (ℕ → ℕ) → ℕ → ℕ
 picks v first zero = 0
 picks v first (suc w) = cond (leb (again v (spread v first w)) (first (suc w))) 0 (suc (picks v first w))
+
+-- The cells of a row in the code.
+abbrev pub cells : List ℕ → ℕ → ℕ
+cells row w = getD row w 0
+
+-- Nine cells hold a row.
+pub record Cells (row : List ℕ) (values : ℕ → ℕ) : Type 0 where
+  pub nine : length row ≡ 9
+  pub holds : (w : ℕ) → w < 9 → cells row w ≡ values w
+
+-- The first nine values of a row fit 32 bits.
+pub record Fit (values : ℕ → ℕ) : Type 0 where
+  pub fits : (w : ℕ) → w < 9 → values w < 2 ^ 32
