@@ -1,3 +1,5 @@
+pub mod Arrays
 pub mod Walk
 pub mod Rows
 pub mod Latest
+pub mod ByTurn

@@ -6,12 +6,14 @@ use native.Mathlib.Nat.{add-zero, add-suc, suc-mul, sub-zero, suc-sub-suc, add-s
 use native.Mathlib.Omega.{arith}
 use mathlib.Core.Path.{_≡_, refl, sym, ap, _∙_, subst}
 use mathlib.Core.Bool.{Bool, true, false, cond, _&&_, true≢false}
+use mathlib.Core.List.{List}
 use lib.Dec.{leb, ltb, eqb}
 use borrow.Author.Tests.{ltb-true, ltb-false, lt-ltb, le-ltb, leb-true, leb-false, le-leb, lt-leb, eqb-true, eq-eqb, ne-eqb}
 use Rattle.jobs.specs.Below.{total, least}
 use Rattle.jobs.proofs.Below.{by-cases, and-left, and-right, below-suc, total-more, total-le, total-zero, total-add, least-le, least-is, least-holds, before-least, least-cases, least-none}
 use Rattle.frame.proofs.Queue.{ends, halts}
-use Rattle.judge.specs.Rows.{again, enters, spread, picks}
+use Rattle.judge.specs.Rows.{again, enters, spread, turned, picks, Holds, Fit, values}
+use Rattle.judge.proofs.Arrays.{holds-same}
 use Rattle.judge.proofs.Walk.{Walk, entered, row, stops, stop, faultsAt, unwind, best}
 
 -- ---- one job's step
@@ -20,7 +22,7 @@ again-grows : (v x : ℕ) → x ≤ again v x
 again-grows v zero = omega arith
 again-grows v (suc x) = omega arith
 
-again-adds : (v x : ℕ) → 0 < x → again v x ≡ x + v
+pub again-adds : (v x : ℕ) → 0 < x → again v x ≡ x + v
 again-adds v zero l = absurd (omega arith)
 again-adds v (suc x) l = refl
 
@@ -28,11 +30,33 @@ again-over : (v x : ℕ) → 0 < again v x → 0 < x
 again-over v zero l = l
 again-over v (suc x) l = omega arith
 
+pub enters-over : (past : Bool) (r c e : ℕ) → past ≡ true → e ≤ r → enters past r c e ≡ 0
+enters-over past r c e t l = rw (t, le-leb e r l)
+
+pub enters-past : (past : Bool) (r c e : ℕ) → past ≡ true → r < e → enters past r c e ≡ e + c
+enters-past past r c e t l = rw (t, lt-leb e r l)
+
+pub enters-before : (past : Bool) (r c e : ℕ) → past ≡ false → enters past r c e ≡ max e r + c
+enters-before past r c e t = rw t
+
 module _ (v : ℕ) (first : ℕ → ℕ) where
   spread-first : (w : ℕ) → first w ≤ spread v first w
   unfolding spread
   spread-first zero = omega arith
   spread-first (suc w) = omega arith
+
+  pub spread-none : first 0 ≡ spread v first 0
+  unfolding spread
+  spread-none = refl
+
+  -- the cell at w from the one before it
+  pub spread-at : (w : ℕ) → 0 < w → spread v first w ≡ max (first w) (again v (spread v first (w - 1)))
+  unfolding spread
+  spread-at zero l = absurd (omega arith)
+  spread-at (suc w) l = ap (λ u. max (first (suc w)) (again v (spread v first u))) (one-less w)
+    where
+      one-less : (u : ℕ) → u ≡ suc u - 1
+      one-less u = omega arith
 
   spread-grows : (w : ℕ) → spread v first w ≤ spread v first (suc w)
   unfolding spread
@@ -81,6 +105,48 @@ module _ (v : ℕ) (first : ℕ → ℕ) where
       (λ e.
       let more : first (suc w) < again v (spread v first w) = leb-false _ _ e in
       rw (e, suc-sub-suc w (picks v first w)) (picks-live w (again-over v (spread v first w) (omega arith))))
+
+pub spread-same : (v : ℕ) (f g : ℕ → ℕ) (w : ℕ) → ((u : ℕ) → u ≤ w → f u ≡ g u) → spread v f w ≡ spread v g w
+unfolding spread
+spread-same v f g zero h = h 0 zero-le
+spread-same v f g (suc w) h =
+    ap (λ x. max x (again v (spread v f w))) (h (suc w) (omega arith))
+    ∙ ap (λ x. max (g (suc w)) (again v x)) (spread-same v f g w (λ u l. h u (omega arith)))
+
+-- each fault costs at most m
+pub spread-bound : (v : ℕ) (first : ℕ → ℕ) (b m : ℕ) → ((u : ℕ) → first u ≤ b + u * m) → v ≤ m → (w : ℕ) → spread v first w ≤ b + w * m
+unfolding spread
+spread-bound v first b m h l zero = h 0
+spread-bound v first b m h l (suc w) =
+    omega (arith, h (suc w), suc-mul w m, spread-bound v first b m h l w, again-most v (spread v first w))
+  where
+    again-most : (v x : ℕ) → again v x ≤ x + v
+    again-most v zero = zero-le
+    again-most v (suc x) = omega arith
+
+-- ---- one turn, as the code makes it from cells
+
+module _ (past : Bool) (r c v : ℕ) (before : List ℕ) where
+  abbrev first : ℕ → ℕ
+  first u = enters past r c (values before u)
+
+  pub turn-fits-first : (on : Bool) → on ≡ true → Fit (turned on past r c v (values before)) → Fit first
+  turn-fits-first on o f =
+      record { fits = λ w l. omega (arith, spread-first v first w, rw o at (f .fits w l)) }
+
+  same-spread : (entry : List ℕ) → Holds 9 entry 9 first → (w : ℕ) → w < 9 → spread v (values entry) w ≡ spread v first w
+  same-spread entry h w l = spread-same v (values entry) first w (λ u m. h .each u (omega arith))
+
+  pub turn-fits : (on : Bool) → on ≡ true → (entry : List ℕ) → Holds 9 entry 9 first → Fit (turned on past r c v (values before)) → Fit (spread v (values entry))
+  turn-fits on o entry h f = record { fits = λ w l. rw (same-spread entry h w l) (rw o at (f .fits w l)) }
+
+  pub turn-made : (on : Bool) → on ≡ true → (entry next : List ℕ) → Holds 9 entry 9 first → Holds 9 next 9 (spread v (values entry))
+      → Holds 9 next 9 (turned on past r c v (values before))
+  turn-made on o entry next h e =
+      rw o (holds-same 9 next 9 (spread v (values entry)) (spread v first) e (same-spread entry h))
+
+  pub turn-left : (on : Bool) → on ≡ false → Holds 9 before 9 (values before) → Holds 9 before 9 (turned on past r c v (values before))
+  turn-left on o h = rw o h
 
 -- ---- the row of a walk
 

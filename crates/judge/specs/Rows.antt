@@ -22,20 +22,24 @@ unfoldable pub spread : ℕ → (ℕ → ℕ) → ℕ → ℕ
 spread v first zero = first 0
 spread v first (suc w) = max (first (suc w)) (again v (spread v first w))
 
+-- The row after a job of the walk; one that is less urgent than the judged job leaves it.
+abbrev pub turned : Bool → Bool → ℕ → ℕ → ℕ → (ℕ → ℕ) → ℕ → ℕ
+turned on past r c v before w = cond on (spread v (λ u. enters past r c (before u)) w) (before w)
+
 -- How many of the w faults that is on this job.
 unfoldable pub picks : ℕ → (ℕ → ℕ) → ℕ → ℕ
 picks v first zero = 0
 picks v first (suc w) = cond (leb (again v (spread v first w)) (first (suc w))) 0 (suc (picks v first w))
 
--- The cells of a row in the code.
-abbrev pub cells : List ℕ → ℕ → ℕ
-cells row w = getD row w 0
+-- An array of `size` words, the first n of which hold these values.
+pub record Holds (size : ℕ) (array : List ℕ) (n : ℕ) (values : ℕ → ℕ) : Type 0 where
+  pub long : length array ≡ size
+  pub each : (i : ℕ) → i < n → getD array i 0 ≡ values i
 
--- Nine cells hold a row.
-pub record Cells (row : List ℕ) (values : ℕ → ℕ) : Type 0 where
-  pub nine : length row ≡ 9
-  pub holds : (w : ℕ) → w < 9 → cells row w ≡ values w
+-- The values that an array holds.
+abbrev pub values : List ℕ → ℕ → ℕ
+values array i = getD array i 0
 
--- The first nine values of a row fit 32 bits.
-pub record Fit (values : ℕ → ℕ) : Type 0 where
-  pub fits : (w : ℕ) → w < 9 → values w < 2 ^ 32
+-- The nine values of a row fit 32 bits.
+pub record Fit (row : ℕ → ℕ) : Type 0 where
+  pub fits : (w : ℕ) → w < 9 → row w < 2 ^ 32

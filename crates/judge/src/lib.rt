@@ -1,2 +1,3 @@
 // The judge: latest finishes over all patterns of at most k faults, the verdict, and patterns that reach a latest finish.
-mod rows;
+mod row;
+mod turns;

@@ -1,8 +1,7 @@
 // The row of nine numbers: for each count of faults from 0 to 8 the latest end of the work so far.
 ghost use mathlib.Core.Path.{_≡_};
-ghost use Prim.Native.Nat.{ℕ, _<_, _^_, max};
-ghost use lib.ListN.{getD};
-ghost use Rattle.judge.specs.Rows.{again, enters, spread, Cells, Fit, cells};
+ghost use Prim.Native.Nat.{_<_, _^_, max};
+ghost use Rattle.judge.specs.Rows.{again, enters, spread, Holds, Fit, values};
 
 pub(crate) fn larger(a: u32, b: u32) -> u32
     ensures { λ r. ⌜ r ≡ max a b ⌝ }
@@ -34,8 +33,8 @@ pub(crate) fn enter(past: bool, ready: u32, run: u32, end: u32) -> u32
 
 // Each end of the row, after the job without fault.
 pub(crate) fn entered(row: [u32; 9], past: bool, ready: u32, run: u32) -> [u32; 9]
-    requires { ⌜ Fit (λ w. enters past ready run (cells row w)) ⌝ }
-    ensures { λ r. ⌜ Cells r (λ w. enters past ready run (cells row w)) ⌝ }
+    requires { ⌜ Fit (λ w. enters past ready run (values row w)) ⌝ }
+    ensures { λ r. ⌜ Holds 9 r 9 (λ w. enters past ready run (values row w)) ⌝ }
 {
     let mut next = [0; 9];
     let mut w = 0;
@@ -48,8 +47,8 @@ pub(crate) fn entered(row: [u32; 9], past: bool, ready: u32, run: u32) -> [u32; 
 
 // The row with the faults of the job: none, or one more than with one fault less.
 pub(crate) fn spread(first: [u32; 9], recovery: u32) -> [u32; 9]
-    requires { ⌜ Fit (spread recovery (cells first)) ⌝ }
-    ensures { λ r. ⌜ Cells r (spread recovery (cells first)) ⌝ }
+    requires { ⌜ Fit (spread recovery (values first)) ⌝ }
+    ensures { λ r. ⌜ Holds 9 r 9 (spread recovery (values first)) ⌝ }
 {
     let mut next = [0; 9];
     next[0] = first[0];
