@@ -105,7 +105,7 @@ module _ (ρ ν : ℕ → ℕ) where
         before q k = rises q p (omega arith) (omega arith)
 
     -- until arrival p comes, it and all later ones change nothing
-    left-rest : (p d t : ℕ) → p + d ≤ n → (0 < d → t ≤ ρ p) → left (p + d) t ≡ left p t
+    pub left-rest : (p d t : ℕ) → p + d ≤ n → (0 < d → t ≤ ρ p) → left (p + d) t ≡ left p t
     left-rest p zero t l h = rw add-zero
     left-rest p (suc d) t l h =
         rw add-suc
@@ -187,7 +187,7 @@ module _ (ρ ν : ℕ → ℕ) where
         (λ stops. rw stops (omega (arith, total-more ν p n (omega arith))))
         (λ goes. rw goes (tail-bound d (suc p) (e + ν p) b (omega arith) (omega arith)))
 
-    ends-bound : (p b : ℕ) → ((q : ℕ) → q < p → ρ q ≤ b) → ends p ≤ b + total p ν
+    pub ends-bound : (p b : ℕ) → ((q : ℕ) → q < p → ρ q ≤ b) → ends p ≤ b + total p ν
     unfolding ends total
     ends-bound zero b h = omega arith
     ends-bound (suc p) b h = omega (arith, ends-bound p b (λ q k. h q (omega arith)), h p (omega arith))
