@@ -24,7 +24,7 @@ use Rattle.jobs.specs.declared.Check.{Check}
 use Rattle.jobs.specs.declared.Check.the-variants.{Fine, Refused}
 use Rattle.jobs.specs.declared.Job.{Job}
 use Rattle.jobs.specs.declared.Arrivals.{Arrivals}
-use Rattle.jobs.proofs.Below.{by-cases, below-suc, some-where, none-at, part-le-total, total-same, total-add, count-none}
+use Rattle.jobs.proofs.Below.{by-cases, below-suc, some-where, none-at, part-le-total, total-same, total-add, count-none, count-more}
 use Rattle.jobs.proofs.Refusals.{Good, first-append, after-fine}
 use Rattle.jobs.proofs.Orders.{job-by-ready}
 use Rattle.frame.specs.Schedule.{need, idle, noFaults, freeSlots}
@@ -36,16 +36,12 @@ use Rattle.frame.proofs.Work.{Closed, owed, present, present-is, presen
 
 -- ---- counts that are split
 
-count-next : (n : ℕ) (p : ℕ → Bool) → count (suc n) p ≡ count n p + cond (p n) 1 0
-unfolding count total
-count-next n p = refl
-
 -- the first a, and d more
 pub count-splits : (a d : ℕ) (p : ℕ → Bool) → count (a + d) p ≡ count a p + count d (λ i. p (a + i))
 count-splits a zero p = rw (add-zero a) (omega (arith, count-none (λ i. p (a + i))))
 count-splits a (suc d) p =
     rw (add-suc a d)
-    (omega (arith, count-next (a + d) p, count-next d (λ i. p (a + i)), count-splits a d p))
+    (omega (arith, rw add-one at (count-more (a + d) p), rw add-one at (count-more d (λ i. p (a + i))), count-splits a d p))
 
 -- ---- the slots in which a queue is empty
 
@@ -88,10 +84,10 @@ module _ (ρ ν : ℕ → ℕ) where
   count-empty p (suc t) =
       by-cases (emptyIn p t)
       (λ e.
-      let more : count (suc t) (emptyIn p) ≡ count t (emptyIn p) + 1 = rw e at (count-next t (emptyIn p)) in
+      let more : count (suc t) (emptyIn p) ≡ count t (emptyIn p) + 1 = rw (add-one, e) at (count-more t (emptyIn p)) in
       omega (arith, more, eqb-true (left ρ ν p t + comes ρ ν p t) 0 e, came-next p t, count-empty p t))
       (λ e.
-      let more : count (suc t) (emptyIn p) ≡ count t (emptyIn p) + 0 = rw e at (count-next t (emptyIn p)) in
+      let more : count (suc t) (emptyIn p) ≡ count t (emptyIn p) + 0 = rw (add-one, e) at (count-more t (emptyIn p)) in
       omega (arith, more, eqb-false (left ρ ν p t + comes ρ ν p t) 0 e, came-next p t, count-empty p t))
 
   -- with all of the first p come, and of the later ones none
@@ -178,6 +174,10 @@ need-no-faults table job l = rw (getD-replicate {A = ℕ} (jobs table) job 0 0 l
 
 -- ---- the walk over the jobs in the order of ready times
 
+pub order-is-arrivals : (table : List ℕ) (order : Arrivals) (i : ℕ) → jobs table ≤ 64 → i < jobs table → order ≡ byReady table
+    → getD (order .job) i (theJob 0) ≡ theJob (arrival table i)
+order-is-arrivals table order i few l e = ap (λ o. getD (o .job) i (theJob 0)) e ∙ job-by-ready table few i (theJob 0) l
+
 module _ (table : List ℕ) (t : ℕ) where
   -- The first i jobs in the order of ready times were ready before t; served in that order they are done at `until`, and `runs` is the sum of their runs.
   pub record Served (i until runs : ℕ) : Type 0 where
@@ -202,10 +202,6 @@ module _ (table : List ℕ) (t : ℕ) where
         done = rw (add-one, ← s .done, ← at, ← brought);
         sum = rw (add-one, ← s .sum, ← brought);
       }
-
-  -- the job at i of the order handed in
-  pub in-order : (order : Arrivals) (i : ℕ) → jobs table ≤ 64 → i < jobs table → order ≡ byReady table → getD (order .job) i (theJob 0) ≡ theJob (arrival table i)
-  in-order order i few l e = ap (λ o. getD (o .job) i (theJob 0)) e ∙ job-by-ready table few i (theJob 0) l
 
   -- what the walk has come to where no further job is ready before t
   pub served-all : (i until runs : ℕ) → (i < jobs table → t ≤ comesAt table i) → Served i until runs → idleBefore table t + runs ≡ max until t

@@ -20,6 +20,7 @@ ghost use Rattle.frame.specs.Asks.{tooLate, freeSlotsRefusals, freeSlots
 // The latest time that may be asked.
 const LAST_TIME: u32 = 10_000_000;
 
+// The larger of two times.
 fn larger(x: u32, y: u32) -> u32
     ensures { λ r. ⌜ r ≡ max x y ⌝ }
 {
@@ -29,8 +30,8 @@ fn larger(x: u32, y: u32) -> u32
     x
 }
 
-// The idle slots before t. The jobs come in the order of ready times and are served in that order, until `until`; the walk stops at the
-// first that is not ready before t.
+// The idle slots before t. The jobs ready before t, served in the order of ready times, are done at `until`; up to then, or up to t if
+// that is later, the slots that their runs do not fill are idle, and none of those is after t.
 fn idle_before(table: &[u32], order: Arrivals, t: u32) -> u32
     requires { ⌜ first (tableRefusals (now table)) ≡ Fine ⌝ }
     requires { ⌜ order ≡ byReady (now table) ⌝ }

@@ -9,7 +9,7 @@ use Rattle.jobs.specs.Table.{jobs, ready}
 use Rattle.jobs.specs.Orders.{theJob}
 use Rattle.jobs.proofs.Refusals.{Good, good}
 use Rattle.frame.proofs.Work.{arrival, comesAt}
-use Rattle.frame.proofs.FreeSlots.{idleBefore, Served, served-none, served-more, served-all, in-order, runs-fit, until-fits}
+use Rattle.frame.proofs.FreeSlots.{idleBefore, Served, served-none, served-more, served-all, order-is-arrivals, runs-fit, until-fits}
 use Rattle.frame.proofs.idle.idle_before.Statement.{statement}
 use Rattle.frame.proofs.idle.idle_before.Tie as tie
 
@@ -34,7 +34,7 @@ this-job : (c : tie.In-loop Inv-loop μ-loop)
     → getD (c .before .before .before .before .args .t2 .job) (c .before .loop .i) (theJob 0) ≡ theJob (arrival (c .before .before .before .before .args .table .now) (c .before .loop .i))
 this-job c =
     let s = c .before .before .before .before in
-    in-order (s .args .table .now) (s .args .t) (s .args .t2) (c .before .loop .i) (in-range (c .before) .few-jobs) (below c) (s .pre .1)
+    order-is-arrivals (s .args .table .now) (s .args .t2) (c .before .loop .i) (in-range (c .before) .few-jobs) (below c) (s .pre .1)
 
 jobs-requires : tie.Need-jobs-requires Inv-loop μ-loop
 jobs-requires c κs = tt
