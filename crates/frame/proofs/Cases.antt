@@ -136,3 +136,8 @@ cases-hold = (
 pub two-miss : verdict (0 ∷ 3 ∷ 2 ∷ 0 ∷ 0 ∷ 3 ∷ 1 ∷ 0 ∷ []) 0 ≡ Miss (record { 0 = 1 }) 3
 unfolding worked
 two-miss = refl
+
+-- Case 13: free slots.
+pub case-13 : freeSlots (0 ∷ 3 ∷ 20 ∷ 2 ∷ 4 ∷ 1 ∷ 15 ∷ 5 ∷ []) 3 5 ≡ 1
+unfolding worked
+case-13 = refl

@@ -7,3 +7,4 @@ pub mod Finish
 pub mod Patterns
 pub mod Verdicts
 pub mod Jumps
+pub mod FreeSlots

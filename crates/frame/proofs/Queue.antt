@@ -5,7 +5,7 @@
 -- first p arrivals are served, and with all of them come, `ends p ∸ t` is left (queue-left). After an arrival comes, the queue is first
 -- empty where the next arrival finds all before it served (queue-empties).
 --
--- In order: definitions; one arrival more; what is left; where it runs empty; a bound. Assumes nothing.
+-- In order: definitions; one arrival more; a bound; what is left; where it runs empty. Assumes nothing.
 use Prim.Native.Nat.{ℕ, zero, suc, _+_, _-_, _≤_, _<_, max}
 use native.Mathlib.Nat.{add-zero, add-suc, add-sub-of-le}
 use native.Mathlib.Omega.{arith}
@@ -87,6 +87,19 @@ module _ (ρ ν : ℕ → ℕ) (on : ℕ → Bool) where
   unfolding left comes total
   left-nothing zero = refl
   left-nothing (suc t) = omega (arith, left-nothing t)
+
+  -- ---- a bound
+
+  -- the work of the first p arrivals
+  abbrev pub all-work : ℕ → ℕ
+  all-work p = total p (λ q. cond (on q) (ν q) 0)
+
+  pub ends-bound : (p b : ℕ) → ((q : ℕ) → q < p → ρ q ≤ b) → ends p ≤ b + all-work p
+  unfolding ends total
+  ends-bound zero b h = omega arith
+  ends-bound (suc p) b h =
+      let ih = ends-bound p b (λ q k. h q (omega arith)) in
+      by-cases (on p) (λ o. rw o (omega (arith, h p (omega arith)))) (λ o. rw o (omega arith))
 
   -- ---- what is left
 
@@ -246,19 +259,6 @@ module _ (ρ ν : ℕ → ℕ) (on : ℕ → Bool) where
             before = s .busy;
           }
 
-      -- ---- a bound
-
-      -- the work of the first p arrivals
-      abbrev all-work : ℕ → ℕ
-      all-work p = total p (λ q. cond (on q) (ν q) 0)
-
-      ends-bound : (p b : ℕ) → ((q : ℕ) → q < p → ρ q ≤ b) → ends p ≤ b + all-work p
-      unfolding ends total
-      ends-bound zero b h = omega arith
-      ends-bound (suc p) b h =
-          let ih = ends-bound p b (λ q k. h q (omega arith)) in
-          by-cases (on p) (λ o. rw o (omega (arith, h p (omega arith)))) (λ o. rw o (omega arith))
-
       bound : (p : ℕ) → own < p → p ≤ last → ends p ≤ ρ own + all-work p
       unfolding total
       bound zero l m = absurd (omega arith)
@@ -271,5 +271,5 @@ module _ (ρ ν : ℕ → ℕ) (on : ℕ → Bool) where
           (λ e. ends-bound (suc p) (ρ own) (λ q k. rises q own (omega arith) below))
 
       -- It is empty no later than after the arrival itself and the work of all.
-      pub queue-bound : ends last ≤ ρ own + total n (λ q. cond (on q) (ν q) 0)
+      pub queue-bound : ends last ≤ ρ own + all-work n
       queue-bound = omega (arith, bound last own-before-last (omega arith), total-more (λ q. cond (on q) (ν q) 0) last n (least-le n (halts own)))

@@ -128,7 +128,7 @@ module _ (table pattern : List ℕ) (set : ℕ → Bool) where
         (λ e. rw e (omega (arith, le, owed-none job l (and-left _ _ e) (r (and-right (set job) _ e)))))
         (λ e. rw e)
 
-    present-none : present t ≡ 0
+    pub present-none : present t ≡ 0
     unfolding present
     present-none =
         total-zero (jobs table) _
@@ -189,7 +189,7 @@ module _ (table pattern : List ℕ) (set : ℕ → Bool) where
         let none = none-at (jobs table) (λ job. set job && waitsAt table pattern t job) e in
         omega (arith, present-none t none, work-none t none))
 
-    arrives-is-comes : (t : ℕ) → arrives t ≡ comes (comesAt table) (brings table pattern) (isOf table set) (jobs table) t
+    pub arrives-is-comes : (t : ℕ) → arrives t ≡ comes (comesAt table) (brings table pattern) (isOf table set) (jobs table) t
     unfolding arrives comes
     arrives-is-comes t =
         sym (in-order-of-ready table (λ job. cond (set job && eqb (ready table job) t) (need table pattern job) 0))

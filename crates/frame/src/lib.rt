@@ -1,6 +1,10 @@
 // The schedule of a frame, and what is asked of it.
 use jobs::Job;
 
+mod idle;
+
+pub use idle::free_slots;
+
 // The verdict: sound, or miss with the job and its latest finish.
 pub enum Verdict {
     Sound,
