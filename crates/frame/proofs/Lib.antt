@@ -7,3 +7,8 @@ pub mod Finish
 pub mod Patterns
 pub mod Verdicts
 pub mod Jumps
+pub mod Fill
+pub mod Bounds
+pub mod Sorted
+pub mod Walk
+pub mod Asks

@@ -1,4 +1,7 @@
 // The schedule of a frame, and what is asked of it.
+mod events;
+
+pub use events::schedule;
 use jobs::Job;
 
 // The verdict: sound, or miss with the job and its latest finish.

@@ -1,0 +1,39 @@
+-- `frame::events::event` meets its contract: each choice has its own answer, and a run is that of `run_on`.
+-- Assumes nothing.
+use mathlib.Core.Path.{refl}
+use borrow.Author.Needs.{needs}
+use Rattle.frame.proofs.events.event.Statement.{statement}
+use Rattle.frame.proofs.events.event.Tie as tie
+
+enum-told : tie.Need-enum-told
+enum-told c = search needs
+
+enum-known-choice : tie.Need-enum-known-choice
+enum-known-choice c = search needs
+
+run-on-requires : tie.Need-run-on-requires
+run-on-requires c κs = rw (c .before .before .before .choice .given .1) at (c .before .before .before .before .before .before .before .pre)
+
+returns : tie.Need-returns
+returns c = rw (c .enum-told .given .1) (refl, refl, refl, refl)
+
+same-length : tie.Need-same-length
+same-length c = search needs
+
+same-length-2 : tie.Need-same-length-2
+same-length-2 c = search needs
+
+returns-2 : tie.Need-returns-2
+returns-2 c = rw (c .before .before .before .before .before .before .before .before .choice .given .1) (c .before .before .before .before .run-on .ensures, refl)
+
+pub event-spec : {M : Type 1} → statement M
+event-spec =
+    tie.close
+    (tie.spec
+    enum-told
+    enum-known-choice
+    run-on-requires
+    returns
+    same-length
+    same-length-2
+    returns-2)
