@@ -1,15 +1,14 @@
 -- `frame::events::event` meets its contract: each choice has its own answer, and a run is that of `run_on`.
 -- Assumes nothing.
 use mathlib.Core.Path.{refl}
-use borrow.Author.Needs.{needs}
 use Rattle.frame.proofs.events.event.Statement.{statement}
 use Rattle.frame.proofs.events.event.Tie as tie
 
 enum-told : tie.Need-enum-told
-enum-told c = search needs
+enum-told c = c .match .keys1
 
 enum-known-choice : tie.Need-enum-known-choice
-enum-known-choice c = search needs
+enum-known-choice c = c .match .keys2
 
 run-on-requires : tie.Need-run-on-requires
 run-on-requires c κs = rw (c .before .before .before .choice .given .1) at (c .before .before .before .before .before .before .before .pre)
@@ -18,10 +17,10 @@ returns : tie.Need-returns
 returns c = rw (c .enum-told .given .1) (refl, refl, refl, refl)
 
 same-length : tie.Need-same-length
-same-length c = search needs
+same-length c = c .before .before .before .before .run-on .kept .1 .1 .1 .0
 
 same-length-2 : tie.Need-same-length-2
-same-length-2 c = search needs
+same-length-2 c = c .before .before .before .before .run-on .kept .1 .1 .1 .1 .0
 
 returns-2 : tie.Need-returns-2
 returns-2 c = rw (c .before .before .before .before .before .before .before .before .choice .given .1) (c .before .before .before .before .run-on .ensures, refl)

@@ -3,32 +3,31 @@
 use Prim.Native.Nat.{_+_, _-_}
 use mathlib.Core.Path.{_≡_, refl, ap}
 use native.Mathlib.Omega.{arith}
-use lib.ListN.{getD, set}
+use lib.ListN.{getD, set, length-set}
 use borrow.Author.Tests.{lt-ltb, le-ltb}
-use borrow.Author.Needs.{needs}
 use Rattle.frame.proofs.events.run_on.Statement.{statement}
 use Rattle.frame.proofs.events.run_on.Tie as tie
 
 mul-end : tie.Need-mul-end
-mul-end c = search needs
+mul-end c = omega arith
 
 slice-read-end : tie.Need-slice-read-end
-slice-read-end c = search needs
+slice-read-end c = c .before .pre .owed
 
 add-end : tie.Need-add-end
-add-end c = search needs
+add-end c = omega arith
 
 sub-left : tie.Need-sub-left
-sub-left c = search needs
+sub-left c = omega arith
 
 mul-left : tie.Need-mul-left
-mul-left c = search needs
+mul-left c = omega arith
 
 slice-write-left : tie.Need-slice-write-left
-slice-write-left c = search needs
+slice-write-left c = c .before .before .pre .owed
 
 same-length : tie.Need-same-length
-same-length c = search needs
+same-length c = simp length-set
 
 returns : tie.Need-returns
 returns c =
@@ -37,22 +36,22 @@ returns c =
     record { time-is = omega arith; left-is = refl; finishes-is = rw (lt-ltb (a .next) end (c .if1 .taken)) }
 
 mul-left-2 : tie.Need-mul-left-2
-mul-left-2 c = search needs
+mul-left-2 c = omega arith
 
 slice-write-left-2 : tie.Need-slice-write-left-2
-slice-write-left-2 c = search needs
+slice-write-left-2 c = c .before .before .pre .owed
 
 mul-finishes : tie.Need-mul-finishes
-mul-finishes c = search needs
+mul-finishes c = omega arith
 
 slice-write-finishes : tie.Need-slice-write-finishes
-slice-write-finishes c = search needs
+slice-write-finishes c = c .before .before .pre .room
 
 same-length-2 : tie.Need-same-length-2
-same-length-2 c = search needs
+same-length-2 c = simp length-set
 
 same-length-3 : tie.Need-same-length-3
-same-length-3 c = search needs
+same-length-3 c = simp length-set
 
 returns-2 : tie.Need-returns-2
 returns-2 c =

@@ -2,7 +2,6 @@
 -- Assumes nothing.
 use mathlib.Core.Path.{sym, _∙_}
 use lib.ListN.{length}
-use borrow.Author.Needs.{needs}
 use Rattle.frame.proofs.Asks.{not-refused, scheduled-fine, scheduled-refused}
 use Rattle.frame.proofs.events.schedule.Statement.{statement}
 use Rattle.frame.proofs.events.schedule.Tie as tie
@@ -11,7 +10,7 @@ check-requires : tie.Need-check-requires
 check-requires c κs = tt
 
 enum-told : tie.Need-enum-told
-enum-told c = search needs
+enum-told c = c .match .keys1
 
 walk-requires : tie.Need-walk-requires
 walk-requires c κs =
@@ -20,10 +19,10 @@ walk-requires c κs =
     (r .0, r .1)
 
 enum-known-answer : tie.Need-enum-known-answer
-enum-known-answer c = search needs
+enum-known-answer c = c .match .keys2
 
 same-length : tie.Need-same-length
-same-length c = search needs
+same-length c = c .before .before .walk .kept .1 .1 .0
 
 returns : tie.Need-returns
 returns c =
