@@ -21,21 +21,10 @@ use Rattle.frame.proofs.Work.{arrival, comesAt, turn, brings, arrivals, in-orde
 use Rattle.frame.proofs.Finish.{atLeast, at-least-itself, urgentAt, runsEmpty, finish-law}
 use Rattle.frame.proofs.Bounds.{sum-total}
 use Rattle.frame.proofs.Patterns.{Reaches, latest-bounds, latest-reached}
-use Rattle.judge.proofs.Walk.{Walk, row, stop, best}
+use Rattle.judge.specs.Walk.{Walk, row, stop, best, walkOf}
 use Rattle.judge.proofs.Rows.{brought, endsWith, haltsWith, ends-same, best-few, walk-bounds, walk-reached}
 
 -- ---- the walk of a job
-
--- the walk over a table's jobs for the judged job
-abbrev pub walkOf : List ℕ → ℕ → Walk
-walkOf table job =
-    record {
-      ready = comesAt table;
-      run = λ q. run table (arrival table q);
-      recovery = λ q. recovery table (arrival table q);
-      on = urgentAt table job;
-      own = turn table job;
-    }
 
 module _ (table : List ℕ) (k job : ℕ) (good : Good table) (isJob : job < jobs table) where
   abbrev walk : Walk

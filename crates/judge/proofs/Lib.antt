@@ -1,7 +1,7 @@
 pub mod Arrays
-pub mod Walk
 pub mod Rows
 pub mod Latest
 pub mod ByTurn
+pub mod Unwinding
 pub mod Judging
 pub mod Theorems

@@ -1,9 +1,19 @@
--- The walk over the jobs in the order of ready times: its rows, where it stops, and the faults that its entries stand for.
-use Prim.Native.Nat.{ℕ, zero, suc, _-_}
+-- The walk over the jobs in the order of ready times: its rows, where it stops, and the faults that its entries stand for. The private
+-- functions compute by it; no promise of an ask rests on it.
+use Prim.Native.Nat.{ℕ, zero, suc, _-_, _<_}
 use mathlib.Core.Bool.{Bool, cond, _&&_}
 use lib.Dec.{leb, ltb, eqb}
+use mathlib.Core.Path.{_≡_}
+use mathlib.Core.List.{List}
+use lib.ListN.{length, getD}
 use Rattle.jobs.specs.Below.{least}
-use Rattle.judge.specs.Rows.{enters, spread, picks}
+use Rattle.jobs.specs.Table.{jobs, ready, run, recovery}
+use Rattle.jobs.specs.Urgency.{earlier, position}
+use Rattle.frame.proofs.Finish.{urgentAt}
+use Rattle.judge.specs.Rows.{enters, spread, picks, Holds}
+use Rattle.judge.specs.Turns.{jobAtTurn}
+use Rattle.judge.specs.declared.trail.Picks.{Picks}
+use Rattle.judge.specs.declared.trail.Trail.{Trail}
 
 -- The jobs of a walk by their turn: ready time, run, recovery, whether at least as urgent as the judged job; and that job's turn.
 pub record Walk : Type 0 where
@@ -44,3 +54,24 @@ unwind walk (suc p) w q = cond (eqb q p) (faultsAt walk p w) (unwind walk p (w -
 -- The pattern that the walk over n turns hands out, by turn.
 abbrev pub best : Walk → ℕ → ℕ → ℕ → ℕ
 best walk k n = unwind walk (stop walk k n) k
+
+-- The walk over a table's jobs for the judged job.
+abbrev pub walkOf : List ℕ → ℕ → Walk
+walkOf table job =
+    record {
+      ready = λ q. ready table (jobAtTurn table q);
+      run = λ q. run table (jobAtTurn table q);
+      recovery = λ q. recovery table (jobAtTurn table q);
+      on = urgentAt table job;
+      own = position (earlier table) (jobs table) job;
+    }
+
+-- The notes of the walk for the judged job: where it stops, and the faults on each job before.
+pub record TrailOf (table : List ℕ) (k job : ℕ) (trail : Trail) : Type 0 where
+  pub stops-at : trail .stop ≡ stop (walkOf table job) k (jobs table)
+  pub notes : (q : ℕ) (d : Picks) → q < trail .stop → Holds 9 (getD (trail .picks) q d .of) 9 (faultsAt (walkOf table job) q)
+
+-- The counts of the pattern that the walk hands out, by job number.
+pub record Unwound (table : List ℕ) (k job : ℕ) (counts : List ℕ) : Type 0 where
+  pub long : length counts ≡ 64
+  pub each : (i : ℕ) → i < jobs table → getD counts i 0 ≡ best (walkOf table job) k (jobs table) (position (earlier table) (jobs table) i)
