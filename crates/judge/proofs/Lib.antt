@@ -5,3 +5,4 @@ pub mod ByTurn
 pub mod Unwinding
 pub mod Judging
 pub mod Theorems
+pub mod Answers

@@ -34,7 +34,7 @@ unwind-less walk (suc p) w q l = ap (λ u. cond (eqb q u) (faultsAt walk u w) (u
     less : (u : ℕ) → u ≡ suc u - 1
     less u = omega arith
 
-zeros-at : (size i : ℕ) → _≡_ {A = ℕ} (getD (replicate size 0) i 0) 0
+pub zeros-at : (size i : ℕ) → _≡_ {A = ℕ} (getD (replicate size 0) i 0) 0
 zeros-at size i =
     by-cases (ltb i size)
     (λ l. getD-replicate {A = ℕ} size i 0 0 (ltb-true i size l))

@@ -5,10 +5,12 @@ use mathlib.Core.Bool.{Bool, cond, _&&_}
 use lib.Dec.{leb, ltb, eqb}
 use mathlib.Core.Path.{_≡_}
 use mathlib.Core.List.{List}
-use lib.ListN.{length, getD}
+use lib.ListN.{length, getD, replicate}
 use Rattle.jobs.specs.Below.{least}
 use Rattle.jobs.specs.Table.{jobs, ready, run, recovery}
 use Rattle.jobs.specs.Urgency.{earlier, position}
+use Rattle.frame.specs.declared.Verdict.{Verdict}
+use Rattle.frame.specs.declared.Verdict.the-variants.{Sound, Miss}
 use Rattle.frame.proofs.Finish.{urgentAt}
 use Rattle.judge.specs.Rows.{enters, spread, picks, Holds}
 use Rattle.judge.specs.Turns.{jobAtTurn}
@@ -75,3 +77,8 @@ pub record TrailOf (table : List ℕ) (k job : ℕ) (trail : Trail) : Type 0 whe
 pub record Unwound (table : List ℕ) (k job : ℕ) (counts : List ℕ) : Type 0 where
   pub long : length counts ≡ 64
   pub each : (i : ℕ) → i < jobs table → getD counts i 0 ≡ best (walkOf table job) k (jobs table) (position (earlier table) (jobs table) i)
+
+-- The counts for a verdict: on a miss those of the named job, on sound all zeros.
+abbrev pub CountsFor : List ℕ → ℕ → Verdict → List ℕ → Type 0
+CountsFor table k Sound counts = counts ≡ replicate 64 0
+CountsFor table k (Miss job time) counts = Unwound table k (job .0) counts

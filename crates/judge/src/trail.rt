@@ -70,7 +70,7 @@ fn picked(row: [u32; 9], on: bool, past: bool, ready: u32, run: u32, recovery: u
 }
 
 // The walk of the job at turn `own`, with its notes.
-fn trail_of<'a>(
+pub(crate) fn trail_of<'a>(
     table: &'a [u32],
     ready: &'a [u32; 64],
     run: &'a [u32; 64],
@@ -109,7 +109,7 @@ fn trail_of<'a>(
 }
 
 // The faults of each job, by job number: the notes unwound from where the walk stops.
-fn unwound(
+pub(crate) fn unwound(
     table: &[u32],
     order: Arrivals,
     trail: Trail,

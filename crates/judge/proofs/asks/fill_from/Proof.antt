@@ -1,0 +1,80 @@
+-- `judge::asks::fill_from` meets its contract: after i words the buffer is filled up to i. Assumes nothing.
+use borrow.Author.Needs.{needs}
+use native.Mathlib.Omega.{arith}
+use Prim.Native.Nat.{ℕ, _-_, _≤_}
+use mathlib.Core.Path.{_≡_, refl, sym, _∙_, ap}
+use mathlib.Core.List.{List}
+use lib.ListN.{length, set}
+use Rattle.frame.specs.Asks.{fill}
+use Rattle.frame.proofs.Fill.{length-fill, fill-none, fill-more}
+use Rattle.judge.specs.Rows.{values}
+use Rattle.judge.proofs.asks.fill_from.Statement.{statement}
+use Rattle.judge.proofs.asks.fill_from.Tie as tie
+use Rattle.judge.proofs.asks.fill_from.Reads as reads
+use Rattle.judge.proofs.asks.fill_from.Lts as lts
+
+abbrev Inv-loop : tie.InvT-loop
+Inv-loop buffer₀ results n i₀ buffer i = (i ≤ n) × (buffer ≡ fill i (values results) buffer₀)
+
+abbrev μ-loop : tie.MeasureT-loop
+μ-loop buffer₀ results n i₀ buffer i = n - i
+
+loop-holds : tie.Need-loop-holds Inv-loop μ-loop
+loop-holds c = (omega arith, fill-none _ _)
+
+mul-buffer : tie.Need-mul-buffer Inv-loop μ-loop
+mul-buffer c = search needs
+
+element-copy-out-buffer : tie.Need-element-copy-out-buffer Inv-loop μ-loop
+element-copy-out-buffer c = search needs
+
+mul-buffer-2 : tie.Need-mul-buffer-2 Inv-loop μ-loop
+mul-buffer-2 c = search needs
+
+slice-write-buffer : tie.Need-slice-write-buffer Inv-loop μ-loop
+slice-write-buffer c =
+    let at = c .before .before in
+    let a = at .before .args in
+    omega (arith, ap length (at .loop .inv .1), length-fill (values (a .results .now)) (a .buffer .now) (at .loop .i) (omega arith))
+
+add-i : tie.Need-add-i Inv-loop μ-loop
+add-i c = search needs
+
+loop-less : tie.Need-loop-less Inv-loop μ-loop
+loop-less c = search needs
+
+loop-again : tie.Need-loop-again Inv-loop μ-loop
+loop-again c =
+    let at = c .before .before in
+    let a = at .before .args in (
+      omega arith,
+      ap (λ (b : List ℕ). set b (at .loop .i) (values (a .results .now) (at .loop .i))) (at .loop .inv .1)
+          ∙ fill-more (values (a .results .now)) (a .buffer .now) (at .loop .i) (omega arith),
+    )
+
+same-length : tie.Need-same-length Inv-loop μ-loop
+same-length c =
+    let a = c .before .before .args in
+    ap length (c .before .loop .inv .1) ∙ length-fill (values (a .results .now)) (a .buffer .now) (c .before .loop .i) (omega arith)
+
+returns : tie.Need-returns Inv-loop μ-loop
+returns c =
+    let a = c .before .before .args in
+    c .before .loop .inv .1 ∙ ap (λ (i : ℕ). fill i (values (a .results .now)) (a .buffer .now)) (omega arith)
+
+pub fill-from-spec : {M : Type 1} → statement M
+fill-from-spec =
+    tie.close
+    (tie.spec
+    Inv-loop
+    μ-loop
+    loop-holds
+    mul-buffer
+    element-copy-out-buffer
+    mul-buffer-2
+    slice-write-buffer
+    add-i
+    loop-less
+    loop-again
+    same-length
+    returns)
