@@ -92,11 +92,11 @@ fn first_of(check: Check, next: Check) -> Check
 fn check(table: &[u32], pattern: &[u32], room: usize) -> Check
     ensures { λ r. ⌜ r ≡ first (scheduleRefusals (now (table .entry)) (now (pattern .entry)) room) ⌝ }
 {
-    let last = first_of(check_sum(pattern), check_room(table, room));
-    first_of(
-        jobs::check_table(table),
-        first_of(check_pattern(table, pattern), last),
-    )
+    let rows = jobs::check_table(table);
+    let counts = check_pattern(table, pattern);
+    let sum = check_sum(pattern);
+    let space = check_room(table, room);
+    first_of(rows, first_of(counts, first_of(sum, space)))
 }
 
 // The slots that a job needs: C + f × V.
