@@ -5,7 +5,7 @@
 -- (run-jump), and an idle processor stays idle (idle-jump). Each event ends a job or makes one ready, or is the last: so there are at most
 -- 2n + 1 of them (turns-at-most).
 --
--- In order: the next ready time; what the walk knows; the start; an idle event; a job runs; the end. Assumes nothing.
+-- In order: the ready times; the next of them; what the walk knows; the start; an idle event; a job runs; the end. Assumes nothing.
 use Prim.Native.Nat.{ℕ, zero, suc, _+_, _*_, _-_, _≤_, _<_, min}
 use native.Mathlib.Nat.{add-zero, add-suc, add-sub-of-le}
 use native.Mathlib.Numerals.{add-one}
@@ -25,7 +25,7 @@ use Rattle.jobs.proofs.Placed.{length-filled, getD-filled}
 use Rattle.jobs.proofs.Refusals.{Good, good}
 use Rattle.frame.specs.Schedule.{need, foremost, waits, runs, had, finish}
 use Rattle.frame.specs.Asks.{fill}
-use Rattle.frame.specs.Events.{Accepted, never, sooner, nextReady, stillWaits, Chosen, Fits, Ran, Allows, Passes}
+use Rattle.frame.specs.Events.{Accepted, ReadyTimes, never, sooner, nextReady, stillWaits, Chosen, Fits, Ran, Allows, Passes}
 use Rattle.frame.specs.declared.events.Clock.{Clock}
 use Rattle.frame.specs.declared.events.Choice.{Choice}
 use Rattle.frame.specs.declared.events.Choice.the-variants.{Runs, Idle}
@@ -35,6 +35,19 @@ use Rattle.frame.proofs.Jumps.{Quiet, Ran as Jumped, run-jump, idle-jum
 use Rattle.frame.proofs.Finish.{Meets, met-finish}
 use Rattle.frame.proofs.Fill.{Written, written-fill}
 use Rattle.frame.proofs.Bounds.{need-positive, finish-at-most, finish-no-sooner}
+
+-- ---- the ready times, read once
+
+module _ (table times : List ℕ) (r : ReadyTimes table times) where
+  pub times-long : length times ≡ 64
+  times-long = rw (r .copied) (length-filled (λ x. x) (jobs table) (ready table) (r .few))
+
+  pub time-of : (job : ℕ) → job < jobs table → getD times job 0 ≡ ready table job
+  time-of job l = rw (r .copied) (getD-filled (λ x. x) (jobs table) (ready table) 0 job l)
+
+  pub waits-by-times : (left : List ℕ) (t job : ℕ) → job < jobs table → (leb (getD times job 0) t && ltb 0 (getD left job 0)) ≡ stillWaits table left t job
+  unfolding stillWaits
+  waits-by-times left t job l = rw (time-of job l)
 
 -- ---- the next ready time
 
