@@ -1,0 +1,133 @@
+// The job file: read into a table and k, and written from them.
+
+use jobs::{MOST_FAULTS, MOST_JOBS, ROW};
+
+ghost use mathlib.Core.Path.{_≡_};
+ghost use Prim.Native.Nat.{_+_, _≤_, _<_};
+ghost use lib.ListN.{length, getD, drop};
+ghost use Rattle.jobfile.specs.Bytes.{numberAt, over};
+ghost use Rattle.jobfile.specs.Meaning.{lengthOf, rowOf, strays, headAt, jobAt, recordAt, meaning, ReadsTo};
+
+// What stands at a record's place: a head with its k, a job, or 01's refusal with the record's offset.
+pub enum Record {
+    Head(u32),
+    Job,
+    Bad { number: u32, place: usize },
+}
+
+// What reading a file answers: n and k, or refused with 01's number and a place.
+pub enum Contents {
+    Jobs { n: usize, k: u32 },
+    Refused { number: u32, place: usize },
+}
+
+// What writing a file answers: its length, or refused with 01's number and a place.
+pub enum Written {
+    Length(usize),
+    Refused { number: u32, place: usize },
+}
+
+fn byte_at(bytes: &[u8], at: usize) -> u32
+    requires { ⌜ at < length (now bytes) ⌝ }
+    ensures { λ r. ⌜ (r ≡ getD (now (bytes .entry)) at 0) × (r < 256) ⌝ }
+{
+    bytes[at] as u32
+}
+
+// The 16-bit number at an offset.
+fn u16_at(bytes: &[u8], at: usize) -> u32
+    requires { ⌜ at + 2 ≤ length (now bytes) ⌝ }
+    ensures { λ r. ⌜ (r ≡ numberAt 2 at (now (bytes .entry))) × (r < 65536) ⌝ }
+{
+    byte_at(bytes, at) + 256 * byte_at(bytes, at + 1)
+}
+
+// The 32-bit number at an offset.
+fn u32_at(bytes: &[u8], at: usize) -> u32
+    requires { ⌜ at + 4 ≤ length (now bytes) ⌝ }
+    ensures { λ r. ⌜ r ≡ numberAt 4 at (now (bytes .entry)) ⌝ }
+{
+    u16_at(bytes, at) + 65536 * u16_at(bytes, at + 2)
+}
+
+// Whether a field of a job's row is outside its range.
+fn strays(left: &[u8]) -> bool
+    requires { ⌜ 20 ≤ length (now left) ⌝ }
+    ensures { λ r. ⌜ r ≡ strays (rowOf (now (left .entry))) ⌝ }
+{
+    let mut field = 0;
+    while field < ROW {
+        if !jobs::in_range(field, u32_at(left, 4 + 4 * field)) {
+            return true;
+        }
+        field += 1;
+    }
+    false
+}
+
+// Kind 1: 21, 23, 25.
+fn head(left: &[u8], at: usize) -> Record
+    requires { ⌜ 2 + lengthOf (now left) ≤ length (now left) ⌝ }
+    ensures { λ r. ⌜ r ≡ headAt (now (left .entry)) at ⌝ }
+{
+    if u16_at(left, 0) != 3 {
+        return Record::Bad { number: 21, place: at };
+    }
+    if at != 0 {
+        return Record::Bad { number: 23, place: at };
+    }
+    let k = byte_at(left, 4);
+    if MOST_FAULTS < k {
+        return Record::Bad { number: 25, place: at };
+    }
+    Record::Head(k)
+}
+
+// Kind 2: 21, 24, 25.
+fn job(left: &[u8], at: usize, n: usize) -> Record
+    requires { ⌜ 2 + lengthOf (now left) ≤ length (now left) ⌝ }
+    ensures { λ r. ⌜ r ≡ jobAt (now (left .entry)) at n ⌝ }
+{
+    if u16_at(left, 0) != 18 {
+        return Record::Bad { number: 21, place: at };
+    }
+    if MOST_JOBS <= n {
+        return Record::Bad { number: 24, place: at };
+    }
+    if strays(left) {
+        return Record::Bad { number: 25, place: at };
+    }
+    Record::Job
+}
+
+// The record at the start of the bytes that are left, n jobs before it: 20, 21, 20, 22, then by its kind.
+fn record_of(left: &[u8], at: usize, n: usize) -> Record
+    ensures { λ r. ⌜ r ≡ recordAt (now (left .entry)) at n ⌝ }
+{
+    if left.len() < 2 {
+        return Record::Bad { number: 20, place: at };
+    }
+    let length = u16_at(left, 0) as usize;
+    if length < 2 {
+        return Record::Bad { number: 21, place: at };
+    }
+    if left.len() < 2 + length {
+        return Record::Bad { number: 20, place: at };
+    }
+    let kind = u16_at(left, 2);
+    match kind {
+        1 => head(left, at),
+        2 => job(left, at, n),
+        _ => Record::Bad { number: 22, place: at },
+    }
+}
+
+// The record at an offset of the file.
+fn record_at(file: &[u8], at: usize, n: usize) -> Record
+    ensures { λ r. ⌜ r ≡ recordAt (drop at (now (file .entry))) at n ⌝ }
+{
+    if file.len() <= at {
+        return Record::Bad { number: 20, place: at };
+    }
+    record_of(&file[at..], at, n)
+}
