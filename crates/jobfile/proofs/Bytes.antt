@@ -62,3 +62,7 @@ getD-words (suc n) bytes (suc i) h =
 pub field-at : (left : List ℕ) (field : ℕ) → field < rowWords → getD (rowOf left) field 0 ≡ numberAt 4 (4 + 4 * field) left
 field-at left field h =
     getD-words rowWords (drop 4 left) field h ∙ ap (λ (l : List ℕ). number (take 4 l)) (drop-drop (4 * field) 4 left)
+
+pub row-length : (left : List ℕ) → length (rowOf left) ≡ rowWords
+unfolding words
+row-length left = refl

@@ -1,3 +1,6 @@
 pub mod Bytes
+pub mod Over
 pub mod Records
+pub mod Walk
+pub mod Filling
 pub mod Cases

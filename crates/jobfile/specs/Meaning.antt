@@ -2,7 +2,7 @@
 --
 -- A record is a 16-bit length, a 16-bit kind and a body, all little-endian. Everything here is over the bytes that are left, with the record at hand
 -- first; its offset `at` and the number n of jobs before it stand beside them.
-use Prim.Native.Nat.{ℕ, zero, suc, _+_}
+use Prim.Native.Nat.{ℕ, zero, suc, _+_, _≤_}
 use mathlib.Core.Path.{_≡_}
 use mathlib.Core.Bool.{Bool, true, false, not, cond}
 use mathlib.Core.List.{List, [], _∷_, _++_}
@@ -88,12 +88,28 @@ walk (b ∷ left) zero at n k =
     | Bad number place ↦ refused number place
     ]
 
+-- Whether a file has a head.
+abbrev pub isHead : Record → Bool
+isHead (Head faults) = true
+isHead Job = false
+isHead (Bad number place) = false
+
+abbrev pub headed : List ℕ → Bool
+headed file = isHead (recordAt file 0 0)
+
 -- The k of a file without a head.
 abbrev pub headlessK : ℕ
 headlessK = 1
 
 unfoldable pub meaning : List ℕ → Meaning
 meaning file = walk file 0 0 0 headlessK
+
+-- A good file, and room for its table.
+pub record Good (file : List ℕ) (room : ℕ) : Type 0 where
+  pub table : List ℕ
+  pub k : ℕ
+  pub means : meaning file ≡ holds table k
+  pub fits : length table ≤ room
 
 -- What reading answers for a buffer of so many words: n and k, or the refusal; 26 after all records, with the file's length as place.
 abbrev pub answered : Meaning → ℕ → ℕ → Contents

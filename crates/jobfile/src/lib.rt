@@ -6,7 +6,17 @@ ghost use mathlib.Core.Path.{_≡_};
 ghost use Prim.Native.Nat.{_+_, _≤_, _<_};
 ghost use lib.ListN.{length, getD, drop};
 ghost use Rattle.jobfile.specs.Bytes.{numberAt, over};
-ghost use Rattle.jobfile.specs.Meaning.{lengthOf, rowOf, strays, headAt, jobAt, recordAt, meaning, ReadsTo};
+ghost use mathlib.Core.Bool.{cond};
+ghost use Rattle.jobs.specs.Table.{rowWords};
+ghost use Rattle.jobfile.specs.Meaning.{lengthOf, rowOf, strays, headAt, jobAt, recordAt, headed, meaning, answered, filled, Good, ReadsTo};
+
+// The k of a file without a head.
+const HEADLESS_K: u32 = 1;
+
+// A head and a job in bytes, with their length.
+const HEAD_BYTES: usize = 5;
+
+const JOB_BYTES: usize = 20;
 
 // What stands at a record's place: a head with its k, a job, or 01's refusal with the record's offset.
 pub enum Record {
@@ -130,4 +140,79 @@ fn record_at(file: &[u8], at: usize, n: usize) -> Record
         return Record::Bad { number: 20, place: at };
     }
     record_of(&file[at..], at, n)
+}
+
+// What reading answers, for a table buffer of so many words: the first refusal met ends it, and 26 comes after all records.
+fn answer(file: &[u8], room: usize) -> Contents
+    ensures { λ r. ⌜ r ≡ answered (meaning (now (file .entry))) room (length (now (file .entry))) ⌝ }
+{
+    let mut at: usize = 0;
+    let mut n: usize = 0;
+    let mut k = HEADLESS_K;
+    while at < file.len() {
+        match record_at(file, at, n) {
+            Record::Head(faults) => {
+                k = faults;
+                at += HEAD_BYTES;
+            }
+            Record::Job => {
+                n += 1;
+                at += JOB_BYTES;
+            }
+            Record::Bad { number, place } => return Contents::Refused { number, place },
+        }
+    }
+    if room < n * ROW {
+        return Contents::Refused { number: 26, place: file.len() };
+    }
+    Contents::Jobs { n, k }
+}
+
+// Where the jobs begin: after the head, if the file has one.
+fn first_job(file: &[u8]) -> usize
+    ensures { λ r. ⌜ r ≡ cond (headed (now (file .entry))) 5 0 ⌝ }
+{
+    match record_at(file, 0, 0) {
+        Record::Head(_) => HEAD_BYTES,
+        _ => 0,
+    }
+}
+
+// The row of the job record at the start of the bytes that are left.
+fn fill_row(left: &[u8], table: &mut [u32])
+    requires { ⌜ (20 ≤ length (now left)) × (rowWords ≤ length (now table)) ⌝ }
+    ensures { λ _. ⌜ now (table .exit) ≡ over (rowOf (now (left .entry))) (now (table .entry)) ⌝ }
+{
+    let mut field = 0;
+    while field < ROW {
+        table[field] = u32_at(left, 4 + 4 * field);
+        field += 1;
+    }
+}
+
+// The rows of a good file.
+fn fill(file: &[u8], table: &mut [u32])
+    requires { ⌜ Good (now file) (length (now table)) ⌝ }
+    ensures { λ _. ⌜ now (table .exit) ≡ filled (meaning (now (file .entry))) (now (table .entry)) ⌝ }
+{
+    let mut at = first_job(file);
+    let mut words: usize = 0;
+    while at < file.len() {
+        fill_row(&file[at..], &mut table[words..]);
+        at += JOB_BYTES;
+        words += ROW;
+    }
+}
+
+// Read a file: n and k, with the rows in the first 4 × n words of the table buffer. A refusal is found before the buffer is touched.
+pub fn read(file: &[u8], table: &mut [u32]) -> Contents
+    ensures { λ r. ⌜ ReadsTo (now (file .entry)) (now (table .entry)) r (now (table .exit)) ⌝ }
+{
+    match answer(file, table.len()) {
+        Contents::Refused { number, place } => Contents::Refused { number, place },
+        Contents::Jobs { n, k } => {
+            fill(file, table);
+            Contents::Jobs { n, k }
+        }
+    }
 }
