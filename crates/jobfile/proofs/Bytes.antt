@@ -1,6 +1,6 @@
--- Laws of numbers as bytes: how the code puts a number together from bytes, which bytes are the word at an index, and that a number and its
--- bytes are each got back from the other. Each is a computation on the first few bytes or an induction on the width. Assumes nothing.
-use Prim.Native.Nat.{ℕ, zero, suc, _+_, _*_, _/_, _%_, _^_, _≤_, _<_}
+-- Laws of numbers from bytes: how the code puts a number together, and which bytes are the field at an index of a row. Each is a computation on
+-- the first few bytes. Assumes nothing.
+use Prim.Native.Nat.{ℕ, zero, suc, _+_, _*_, _≤_, _<_}
 use native.Mathlib.Nat.{add-zero}
 use native.Mathlib.Omega.{arith}
 use mathlib.Core.Path.{_≡_, refl, sym, ap, _∙_}
@@ -8,7 +8,7 @@ use mathlib.Core.List.{List, [], _∷_, _++_}
 use lib.ListN.{length, getD, take, drop, length-drop}
 use lib.Seq.{getD-drop, drop-drop}
 use Rattle.jobs.specs.Table.{rowWords}
-use Rattle.jobfile.specs.Bytes.{number, numberAt, words, bytesOf, wordBytes}
+use Rattle.jobfile.specs.Bytes.{number, numberAt, words}
 use Rattle.jobfile.specs.Meaning.{rowOf}
 
 -- ---- from bytes to a number

@@ -1,6 +1,6 @@
 -- Laws of filling the table from a good file: how it starts, that what comes next is a job and has room, one row more, and the end. Nothing is refused in a good
 -- file, and a head stands only at its start, so every record after it is a job. Assumes nothing.
-use Prim.Native.Nat.{ℕ, _+_, _≤_, _<_}
+use Prim.Native.Nat.{ℕ, _+_, _-_, _≤_, _<_}
 use native.Mathlib.Nat.{add-zero}
 use native.Mathlib.Omega.{arith}
 use mathlib.Core.Path.{_≡_, refl, sym, ap, _∙_, subst}
@@ -16,7 +16,7 @@ use Rattle.jobfile.specs.Meaning.{rowOf, recordAt, Meaning, holds, refus
 use Rattle.jobfile.specs.declared.Record.{Record}
 use Rattle.jobfile.specs.declared.Record.the-variants.{Head, Job, Bad}
 use Rattle.jobfile.proofs.Bytes.{row-length}
-use Rattle.jobfile.proofs.Over.{over-length, over-block, lent}
+use Rattle.jobfile.proofs.Over.{over-length, over-lent}
 use Rattle.jobfile.proofs.Records.{IsHead, as-head, head-answers}
 use Rattle.jobfile.proofs.Walk.{Passed, passed-none, passed-head, passed-job, passed-bad, passed-all, by-record}
 
@@ -105,9 +105,9 @@ module _ (file table₀ table : List ℕ) (at words : ℕ) (good : Good file (le
         let l = passed-fits file (at + 20) (f .n + 1) (f .k) (f .rows ++ rowOf (drop at file)) (length table₀) next-passed good in
         omega (arith, length-append (f .rows) (rowOf (drop at file)), row-length (drop at file), f .long)
 
-    pub filling-more : (left : List ℕ) (room : ℕ) → left ≡ drop at file → length table ≤ words + room
-        → Filling file table₀ (putMid words room table (over (rowOf left) (midOf words room table))) (at + 20) (words + 4)
-    filling-more left room e l =
+    pub filling-more : (left back : List ℕ) → left ≡ drop at file → back ≡ over (rowOf left) (midOf words (length table - words) table)
+        → Filling file table₀ (putMid words (length table - words) table back) (at + 20) (words + 4)
+    filling-more left back e b =
         record {
           n = f .n + 1;
           k = f .k;
@@ -116,9 +116,8 @@ module _ (file table₀ table : List ℕ) (at words : ℕ) (good : Good file (le
           no-head = λ z. absurd (omega arith);
           long = omega (arith, length-append (f .rows) (rowOf (drop at file)), row-length (drop at file), f .long);
           laid =
-              ap (λ (t : List ℕ). putMid words room t (over (rowOf left) (midOf words room t))) (f .laid)
-              ∙ ap (λ (s : List ℕ). putMid words room (over (f .rows) table₀) (over (rowOf s) (midOf words room (over (f .rows) table₀)))) e
-              ∙ over-block (f .rows) (rowOf (drop at file)) table₀ words room (f .long) (omega (arith, filling-length)) filling-fits;
+              over-lent table₀ table back (f .rows) (rowOf (drop at file)) words (f .laid) (f .long) (omega (arith, filling-fits, f .long))
+              (b ∙ ap (λ (s : List ℕ). over (rowOf s) (midOf words (length table - words) table)) e);
         }
 
   pub filling-all : length file ≤ at → table ≡ filled (meaning file) table₀

@@ -47,3 +47,16 @@ over-block done block t at k e h l =
     ∙ sym
     (over-at (done ++ block) t (at + length block) (length-append done block ∙ ap (λ (i : ℕ). i + length block) e)
     ∙ append-assoc done block (drop (at + length block) t))
+
+-- the same where the buffer is known only to be the list over what was there
+pub over-lent : (t₀ t back done block : List ℕ) (at : ℕ) → t ≡ over done t₀ → length done ≡ at → at ≤ length t₀ → back ≡ over block (midOf at (length t - at) t)
+    → putMid at (length t - at) t back ≡ over (done ++ block) t₀
+over-lent t₀ t back done block at e l h b =
+    let same : length t ≡ length t₀ = ap length e ∙ over-length done t₀ (omega arith) in
+    ap (putMid at (length t - at) t) b
+    ∙ ap (λ (s : List ℕ). putMid at (length t - at) s (over block (midOf at (length t - at) s))) e
+    ∙ over-block done block t₀ at (length t - at) l (omega arith) (omega arith)
+
+pub over-first : (t : List ℕ) (x : ℕ) → 1 ≤ length t → set t 0 x ≡ over (x ∷ []) t
+over-first [] x h = absurd (omega arith)
+over-first (y ∷ t) x h = refl

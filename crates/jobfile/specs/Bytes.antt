@@ -1,5 +1,5 @@
--- Numbers as bytes, little-endian, and a list laid over the start of a buffer.
-use Prim.Native.Nat.{ℕ, zero, suc, _+_, _*_, _/_, _%_}
+-- Numbers from bytes, little-endian, and a list laid over the start of a buffer.
+use Prim.Native.Nat.{ℕ, zero, suc, _+_, _*_}
 use mathlib.Core.List.{List, [], _∷_, _++_}
 use lib.ListN.{length, take, drop}
 
@@ -16,16 +16,6 @@ numberAt width at bytes = number (take width (drop at bytes))
 unfoldable pub words : ℕ → List ℕ → List ℕ
 words zero bytes = []
 words (suc count) bytes = number (take 4 bytes) ∷ words count (drop 4 bytes)
-
--- A number as so many bytes.
-unfoldable pub bytesOf : ℕ → ℕ → List ℕ
-bytesOf zero x = []
-bytesOf (suc width) x = x % 256 ∷ bytesOf width (x / 256)
-
--- These words as 32-bit numbers, one after the other.
-unfoldable pub wordBytes : List ℕ → List ℕ
-wordBytes [] = []
-wordBytes (w ∷ ws) = bytesOf 4 w ++ wordBytes ws
 
 -- A list laid over the start of a buffer: the buffer's others stay.
 abbrev pub over : List ℕ → List ℕ → List ℕ

@@ -1,4 +1,4 @@
-// The job file: read into a table and k, and written from them.
+// Reading a job file into a table and k.
 
 use jobs::{MOST_FAULTS, MOST_JOBS, ROW};
 
@@ -14,9 +14,9 @@ ghost use Rattle.jobfile.specs.Meaning.{lengthOf, rowOf, strays, headAt,
 const HEADLESS_K: u32 = 1;
 
 // A head and a job in bytes, with their length.
-const HEAD_BYTES: usize = 5;
+pub const HEAD_BYTES: usize = 5;
 
-const JOB_BYTES: usize = 20;
+pub const JOB_BYTES: usize = 20;
 
 // What stands at a record's place: a head with its k, a job, or 01's refusal with the record's offset.
 pub enum Record {
@@ -28,12 +28,6 @@ pub enum Record {
 // What reading a file answers: n and k, or refused with 01's number and a place.
 pub enum Contents {
     Jobs { n: usize, k: u32 },
-    Refused { number: u32, place: usize },
-}
-
-// What writing a file answers: its length, or refused with 01's number and a place.
-pub enum Written {
-    Length(usize),
     Refused { number: u32, place: usize },
 }
 

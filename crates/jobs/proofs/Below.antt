@@ -1,17 +1,19 @@
 -- Laws of sums, maxima and searches over the numbers below n.
 --
--- In order: a case split on a test; `total`; `count`; `greatest`; `some`; `least`; `listed`. Each is an induction on n. Assumes nothing.
-use Prim.Native.Nat.{ℕ, zero, suc, _+_, _-_, _≤_, _<_, max}
+-- In order: a case split on a test; `total`; `count`; numbers that all differ; `greatest`; `some`; `least`; `listed`. Each is an induction on n. Assumes nothing.
+use Prim.Native.Nat.{ℕ, zero, suc, _+_, _-_, _≤_, _<_}
 use native.Mathlib.Nat.{le-max-left, le-max-right, le-trans, eq-or-lt-of-le, le-of-suc-le-suc, lt-irrefl}
+use native.Mathlib.Numerals.{add-one}
 use native.Mathlib.Omega.{arith}
-use mathlib.Core.Path.{_≡_, refl, sym, ap, _∙_, subst}
-use mathlib.Core.Logic.{⊎-elim, _⊎_}
-use mathlib.Core.Bool.{Bool, true, false, not, cond, _&&_, _||_, or-true, true≢false, false≢true}
-use mathlib.Core.List.{List, [], _∷_, _++_}
+use mathlib.Core.Path.{_≡_, refl, sym, ap, _∙_}
+use mathlib.Core.Logic.{⊎-elim}
+use mathlib.Core.Bool.{Bool, true, false, cond, _&&_, or-true, true≢false, false≢true}
+use mathlib.Core.List.{[], _∷_}
 use lib.ListN.{length, getD, length-append, List·getD-append}
 use lib.Seq.{getD-at}
-use lib.Dec.{ltb}
-use borrow.Author.Tests.{ltb-true, ltb-false}
+use lib.Dec.{ltb, eqb}
+use mir.Val.{boolByte}
+use borrow.Author.Tests.{ltb-true, ltb-false, eqb-true, eq-eqb}
 use Rattle.jobs.specs.Below.{total, count, greatest, some, least, listed}
 
 -- ---- tests
@@ -34,6 +36,10 @@ and-both a b p q = rw (p, q)
 -- an index below suc n is below n or is n
 pub below-suc {ℓ} : {P : Type ℓ} {i n : ℕ} → i < suc n → (i < n → P) → (i ≡ n → P) → P
 below-suc h f g = ⊎-elim (λ e. g e) (λ l. f l) (eq-or-lt-of-le (le-of-suc-le-suc h))
+
+indicator-le : (a b : Bool) → (a ≡ true → b ≡ true) → cond {A = ℕ} a 1 0 ≤ cond b 1 0
+indicator-le true b h = rw (h refl) (omega arith)
+indicator-le false b h = omega arith
 
 -- ---- total
 
@@ -86,6 +92,101 @@ total-falls (suc n) g h i l e s =
     below-suc l
     (λ k. omega (arith, total-falls n g h i k e (λ j m d. s j (omega arith) d), s n (omega arith) (λ q. omega arith)))
     (λ q. omega (arith, total-same n h g (λ j m. s j (omega arith) (λ w. omega arith)), ap g q, ap h q, e))
+
+-- one part is less and none is more, so the sum is less
+pub total-less : (n : ℕ) (g h : ℕ → ℕ) (i : ℕ) → i < n → g i < h i → ((j : ℕ) → j < n → g j ≤ h j) → total n g < total n h
+unfolding total
+total-less zero g h i l e s = absurd (omega arith)
+total-less (suc n) g h i l e s =
+    below-suc l
+    (λ k. omega (arith, total-less n g h i k e (λ j m. s j (omega arith)), s n (omega arith)))
+    (λ q. omega (arith, total-le n g h (λ j m. s j (omega arith)), ap g q, ap h q, e))
+
+total-ones : (n : ℕ) → total n (λ i. 1) ≡ n
+unfolding total
+total-ones zero = refl
+total-ones (suc n) = omega (arith, total-ones n)
+
+-- ---- count
+
+pub count-none : (p : ℕ → Bool) → count 0 p ≡ 0
+unfolding count total
+count-none p = refl
+
+pub count-more : (n : ℕ) (p : ℕ → Bool) → count (n + 1) p ≡ count n p + boolByte (p n)
+unfolding count total
+count-more n p = by-cases (p n) (λ e. rw (add-one, e)) (λ e. rw (add-one, e))
+
+pub count-le : (n : ℕ) (p q : ℕ → Bool) → ((i : ℕ) → i < n → p i ≡ true → q i ≡ true) → count n p ≤ count n q
+unfolding count
+count-le n p q h = total-le n _ _ (λ i l. indicator-le (p i) (q i) (h i l))
+
+-- what has p has q, and one that has not p has q, so more have q
+pub count-less : (n : ℕ) (p q : ℕ → Bool) (i : ℕ) → i < n → p i ≡ false → q i ≡ true → ((j : ℕ) → j < n → p j ≡ true → q j ≡ true) → count n p < count n q
+unfolding count
+count-less n p q i l e f h = total-less n _ _ i l (rw (e, f) (omega arith)) (λ j m. indicator-le (p j) (q j) (h j m))
+
+pub count-all : (n : ℕ) → count n (λ i. true) ≡ n
+unfolding count
+count-all n = total-ones n
+
+pub count-at-most : (n : ℕ) (p : ℕ → Bool) → count n p ≤ n
+count-at-most n p = omega (arith, count-le n p (λ i. true) (λ i l e. refl), count-all n)
+
+-- at most one has p
+pub count-unique : (n : ℕ) (p : ℕ → Bool) → ((i j : ℕ) → i < n → j < n → p i ≡ true → p j ≡ true → i ≡ j) → count n p ≤ 1
+unfolding count total
+count-unique zero p h = omega arith
+count-unique (suc n) p h =
+    by-cases (p n)
+    (λ e. rw (e, total-zero n (λ i. cond (p i) 1 0) (λ i l. not-another i l e)) (omega arith))
+    (λ e. rw e (omega (arith, count-unique n p (λ i j l m. h i j (omega arith) (omega arith)))))
+  where
+    not-another : (i : ℕ) → i < n → p n ≡ true → _≡_ {A = ℕ} (cond (p i) 1 0) 0
+    not-another i l e = by-cases (p i) (λ f. absurd (lt-irrefl n (rw (h i n (omega arith) (omega arith) f e) at l))) (λ f. rw f)
+
+pub count-positive : (n : ℕ) (p : ℕ → Bool) → 0 < count n p → (i : ℕ) × (i < n) × (p i ≡ true)
+unfolding count
+count-positive n p h =
+    let m = total-positive n _ h in
+    by-cases (p (m .0)) (λ e. (m .0, m .1, e)) (λ e. absurd (lt-irrefl 0 (rw e at (m .2))))
+
+pub count-at : (n : ℕ) (p : ℕ → Bool) (i : ℕ) → i < n → p i ≡ true → 0 < count n p
+count-at n p i l e =
+    omega (arith, count-less n (λ j. false) p i l refl e (λ j m f. absurd (false≢true f)))
+
+-- ---- all different
+
+-- each number below n equals one of the numbers below n
+count-equal : (n i : ℕ) → i < n → count n (λ j. eqb i j) ≡ 1
+count-equal n i l =
+    omega
+    (arith, count-unique n (λ j. eqb i j) (λ j k m o e f. omega (arith, eqb-true)), count-at n (λ j. eqb i j) i l (eq-eqb i i refl))
+
+module _ (n : ℕ) (f : ℕ → ℕ) (small : (i : ℕ) → i < n → f i < n) (apart : (i j : ℕ) → i < n → j < n → f i ≡ f j → i ≡ j) where
+  reaches : ℕ → ℕ
+  reaches v = count n (λ i. eqb (f i) v)
+
+  reached-once : (v : ℕ) → reaches v ≤ 1
+  unfolding reaches
+  reached-once v = count-unique n (λ i. eqb (f i) v) (λ i j l m e d. apart i j l m (omega (arith, eqb-true)))
+
+  reached-in-all : total n reaches ≡ n
+  unfolding reaches count
+  reached-in-all =
+      total-swap n n (λ v i. cond (eqb (f i) v) 1 0)
+      ∙ total-same n _ (λ i. 1) (λ i l. count-equal n (f i) (small i l))
+      ∙ total-ones n
+
+  -- n numbers below n that all differ are all the numbers below n
+  pub onto : (v : ℕ) → v < n → (i : ℕ) × (i < n) × (f i ≡ v)
+  unfolding reaches
+  onto v l =
+      by-cases (ltb 0 (reaches v))
+      (λ t. let m = count-positive n (λ i. eqb (f i) v) (ltb-true _ _ t) in (m .0, m .1, eqb-true _ _ (m .2)))
+      (λ t.
+      let none : reaches v < 1 = omega (arith, ltb-false) in
+      absurd (omega (arith, total-less n reaches (λ w. 1) v l none (λ w k. reached-once w), reached-in-all, total-ones n)))
 
 -- ---- greatest
 

@@ -1,3 +1,6 @@
 pub mod Below
 pub mod Table
 pub mod Urgency
+pub mod Refusals
+pub mod Placed
+pub mod Orders

@@ -1,6 +1,6 @@
 -- Sums, maxima and searches over the numbers below n, by which the other definitions count.
 use Prim.Native.Nat.{ℕ, zero, suc, _+_, max}
-use mathlib.Core.Bool.{Bool, true, false, cond, _||_}
+use mathlib.Core.Bool.{Bool, false, cond, _||_}
 use mathlib.Core.List.{List, [], _∷_, _++_}
 
 -- The sum of g i over all i below n.

@@ -2,3 +2,4 @@ pub mod Below
 pub mod Table
 pub mod Urgency
 pub mod Refusals
+pub mod Orders

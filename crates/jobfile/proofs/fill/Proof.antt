@@ -2,11 +2,9 @@
 -- The measure is what is left of the file. Assumes nothing.
 use Prim.Native.Nat.{_+_, _-_, _≤_}
 use native.Mathlib.Omega.{arith}
-use mathlib.Core.Path.{_≡_, sym, subst}
-use borrow.Rule.Slice.PartMut.{putMid}
 use Rattle.jobs.specs.Table.{rowWords}
 use Rattle.jobfile.proofs.Over.{lent, part-length}
-use lib.ListN.{length, take, drop}
+use lib.ListN.{length}
 use borrow.Author.Needs.{needs}
 use Rattle.jobfile.proofs.Filling.{Filling, filling-none, filling-length, next-inside, next-fits, filling-more, filling-all}
 use Rattle.jobfile.proofs.fill.Statement.{statement}
@@ -85,11 +83,8 @@ loop-again : tie.Need-loop-again Inv-loop μ-loop
 loop-again c =
     let s = c .before .before .before .before .before .before .before .before .before .before in
     let p = c .before .before .before .before .before .before .loop in
-    let left = take (length (s .args .file .now) - p .at) (drop (p .at) (s .args .file .now)) in
-    subst (λ t. Filling (s .args .file .now) (s .args .table .now) (putMid (p .words) (length (p .table) - p .words) (p .table) t) (p .at + 20) (p .words + 4))
-    (sym (c .before .before .fill-row .ensures))
-    (filling-more (s .args .file .now) (s .args .table .now) (p .table) (p .at) (p .words) (s .pre) (p .inv) (c .before .before .before .before .before .loop-test .taken) left (length (p .table) - p .words)
-    (lent (s .args .file .now) (p .at) (length (s .args .file .now) - p .at) (omega arith)) (omega arith))
+    filling-more (s .args .file .now) (s .args .table .now) (p .table) (p .at) (p .words) (s .pre) (p .inv) (c .before .before .before .before .before .loop-test .taken) _ _
+    (lent (s .args .file .now) (p .at) (length (s .args .file .now) - p .at) (omega arith)) (c .before .before .fill-row .ensures)
 
 same-length : tie.Need-same-length Inv-loop μ-loop
 same-length c =

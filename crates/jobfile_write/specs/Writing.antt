@@ -1,15 +1,25 @@
 -- The bytes of a table and k, and what writing them answers.
-use Prim.Native.Nat.{ℕ, zero, suc}
+use Prim.Native.Nat.{ℕ, zero, suc, _/_, _%_}
 use mathlib.Core.Path.{_≡_}
 use mathlib.Core.List.{List, [], _∷_, _++_}
 use lib.ListN.{length, take, drop}
 use lib.Dec.{ltb}
 use Rattle.jobs.specs.Table.{rowWords, jobs}
-use Rattle.jobs.specs.Refusals.{given, first, cutRow, tooManyJobs, outOfRange, tooManyFaults}
+use Rattle.jobs.specs.Refusals.{given, first, tableRefusals, tooManyFaults}
 use Rattle.jobs.specs.declared.Check.{Check}
-use Rattle.jobfile.specs.Bytes.{bytesOf, wordBytes, over}
-use Rattle.jobfile.specs.declared.Written.{Written}
-use Rattle.jobfile.specs.declared.Written.the-variants.{Length, Refused}
+use Rattle.jobfile.specs.Bytes.{over}
+use Rattle.jobfile_write.specs.declared.Written.{Written}
+use Rattle.jobfile_write.specs.declared.Written.the-variants.{Length, Refused}
+
+-- A number as so many bytes.
+unfoldable pub bytesOf : ℕ → ℕ → List ℕ
+bytesOf zero x = []
+bytesOf (suc width) x = x % 256 ∷ bytesOf width (x / 256)
+
+-- These words as 32-bit numbers, one after the other.
+unfoldable pub wordBytes : List ℕ → List ℕ
+wordBytes [] = []
+wordBytes (w ∷ ws) = bytesOf 4 w ++ wordBytes ws
 
 -- A head: length 3, kind 1, one byte k.
 unfoldable pub headBytes : ℕ → List ℕ
@@ -34,7 +44,7 @@ noRoom table k room = given (ltb room (length (fileOf table k))) 28 (length (fil
 
 -- Write: 1, 2, 3, 4, 28.
 abbrev pub writeRefusals : List ℕ → ℕ → ℕ → List Check
-writeRefusals table k room = cutRow table ∷ tooManyJobs table ∷ outOfRange table ∷ tooManyFaults k ∷ noRoom table k room ∷ []
+writeRefusals table k room = tableRefusals table ++ tooManyFaults k ∷ noRoom table k room ∷ []
 
 -- What writing answers: the file's length, or the refusal.
 abbrev pub reported : Check → ℕ → Written
