@@ -30,7 +30,7 @@ pub record Filling (file table₀ table : List ℕ) (at words : ℕ) : Type 0 wh
   pub long : length rows ≡ words
   pub laid : table ≡ over rows table₀
 
-headed-is : (r : Record) → isHead r ≡ true → (k : ℕ) × (r ≡ Head k)
+pub headed-is : (r : Record) → isHead r ≡ true → (k : ℕ) × (r ≡ Head k)
 headed-is (Head k) e = (k, refl)
 headed-is Job e = absurd (true≢false (sym e))
 headed-is (Bad number place) e = absurd (true≢false (sym e))
