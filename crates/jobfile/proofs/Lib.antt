@@ -3,4 +3,3 @@ pub mod Over
 pub mod Records
 pub mod Walk
 pub mod Filling
-pub mod Cases

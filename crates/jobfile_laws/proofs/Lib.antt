@@ -2,3 +2,5 @@ pub mod Digits
 pub mod Ranges
 pub mod RoundTrip
 pub mod SameBytes
+pub mod Promises
+pub mod Cases
