@@ -25,6 +25,12 @@ pub enum Record {
     Bad { number: u32, place: usize },
 }
 
+// The walk over the file: the lent bytes, and the offset of the next record.
+pub struct Reader<'a> {
+    pub file: &'a [u8],
+    pub at: usize,
+}
+
 // What reading a file answers: n and k, or refused with 01's number and a place.
 pub enum Contents {
     Jobs { n: usize, k: u32 },
@@ -136,6 +142,27 @@ fn record_at(file: &[u8], at: usize, n: usize) -> Record
     record_of(&file[at..], at, n)
 }
 
+// A reader at an offset of the file.
+fn start<'a>(file: &'a [u8], at: usize) -> Reader<'a>
+    ensures { λ r. ⌜ (r .file ≡ file .entry) × (r .at ≡ at) ⌝ }
+{
+    Reader { file, at }
+}
+
+// The record at the reader's place.
+fn next<'a>(reader: Reader<'a>, n: usize) -> Record
+    ensures { λ r. ⌜ r ≡ recordAt (drop (reader .entry .at) (now (reader .entry .file))) (reader .entry .at) n ⌝ }
+{
+    record_at(reader.file, reader.at, n)
+}
+
+// The record that a reader at an offset of the file meets next: the walk's one way to the reader.
+fn next_at(file: &[u8], at: usize, n: usize) -> Record
+    ensures { λ r. ⌜ r ≡ recordAt (drop at (now (file .entry))) at n ⌝ }
+{
+    next(start(file, at), n)
+}
+
 // What reading answers, for a table buffer of so many words: the first refusal met ends it, and 26 comes after all records.
 fn answer(file: &[u8], room: usize) -> Contents
     ensures { λ r. ⌜ r ≡ answered (meaning (now (file .entry))) room (length (now (file .entry))) ⌝ }
@@ -144,7 +171,7 @@ fn answer(file: &[u8], room: usize) -> Contents
     let mut n: usize = 0;
     let mut k = HEADLESS_K;
     while at < file.len() {
-        match record_at(file, at, n) {
+        match next_at(file, at, n) {
             Record::Head(faults) => {
                 k = faults;
                 at += HEAD_BYTES;

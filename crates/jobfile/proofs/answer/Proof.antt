@@ -12,7 +12,7 @@ use Rattle.jobfile.proofs.answer.Statement.{statement}
 use Rattle.jobfile.proofs.answer.Tie as tie
 use Rattle.jobfile.proofs.answer.Reads as reads
 use Rattle.jobfile.proofs.answer.Lts as lts
-use Rattle.jobfile.proofs.record_at.Reads as record-at-reads
+use Rattle.jobfile.proofs.next_at.Reads as next-at-reads
 
 abbrev Inv-loop : tie.InvT-loop
 Inv-loop file room at₀ n₀ k₀ at n k = (rows : List ℕ) × Passed file at n k rows
@@ -28,16 +28,16 @@ head-next : (c : tie.After-known-told Inv-loop μ-loop)
     → let p = c .before .before .before .before .before .loop in Passed (c .before .before .before .before .before .before .before .args .file .now) (p .at + 5) (p .n) (c .before .faults .given .0 .0) (p .inv .0)
 head-next c =
     let p = c .before .before .before .before .before .loop in
-    passed-head _ (p .at) (p .n) (p .k) (p .inv .0) (p .inv .1) _ (sym (c .before .before .before .record-at .ensures) ∙ c .before .faults .given .1)
+    passed-head _ (p .at) (p .n) (p .k) (p .inv .0) (p .inv .1) _ (sym (c .before .before .before .next-at .ensures) ∙ c .before .faults .given .1)
 
 job-next : (c : tie.After-enum-told Inv-loop μ-loop)
     → let p = c .before .before .before .before .loop in let file = c .before .before .before .before .before .before .args .file .now in Passed file (p .at + 20) (p .n + 1) (p .k) (p .inv .0 ++ rowOf (drop (p .at) file))
 job-next c =
     let p = c .before .before .before .before .loop in
-    passed-job _ (p .at) (p .n) (p .k) (p .inv .0) (p .inv .1) (sym (c .before .before .record-at .ensures) ∙ c .enum-told .given .1)
+    passed-job _ (p .at) (p .n) (p .k) (p .inv .0) (p .inv .1) (sym (c .before .before .next-at .ensures) ∙ c .enum-told .given .1)
 
-record-at-requires : tie.Need-record-at-requires Inv-loop μ-loop
-record-at-requires c κs = search needs
+next-at-requires : tie.Need-next-at-requires Inv-loop μ-loop
+next-at-requires c κs = search needs
 
 enum-known-faults : tie.Need-enum-known-faults Inv-loop μ-loop
 enum-known-faults c = search needs
@@ -73,7 +73,7 @@ returns : tie.Need-returns Inv-loop μ-loop
 returns c =
     let p = c .before .before .before .before .before .loop in
     answers-refusal _ _ _ _ _
-    (passed-bad _ (p .at) (p .n) (p .k) (p .inv .0) (p .inv .1) _ _ (omega arith) (sym (c .before .before .before .record-at .ensures) ∙ c .before .number .given .1))
+    (passed-bad _ (p .at) (p .n) (p .k) (p .inv .0) (p .inv .1) _ _ (omega arith) (sym (c .before .before .before .next-at .ensures) ∙ c .before .number .given .1))
 
 mul-if1 : tie.Need-mul-if1 Inv-loop μ-loop
 mul-if1 c = omega arith
@@ -95,7 +95,7 @@ answer-spec =
     Inv-loop
     μ-loop
     loop-holds
-    record-at-requires
+    next-at-requires
     enum-known-faults
     add-at
     loop-less
