@@ -6,7 +6,7 @@ use native.Mathlib.Omega.{arith}
 use mathlib.Core.Path.{_≡_, refl, sym, ap, _∙_}
 use mathlib.Core.List.{List, [], _∷_, _++_, append-assoc, append-nil}
 use lib.ListN.{length, getD, take, drop, set, length-append, length-drop, drop-of-length-le}
-use lib.Seq.{length-take-le, drop-cons, take-suc, take-all, take-at, drop-at, drop-drop, set-at, append-snoc}
+use lib.Seq.{length-take-le, drop-cons, take-suc, take-all, take-at, drop-at, drop-drop, set-at}
 use borrow.Rule.Slice.PartMut.{midOf, putMid}
 use Rattle.jobfile.specs.Bytes.{over}
 

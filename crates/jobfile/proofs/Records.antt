@@ -2,12 +2,12 @@
 -- Forwards each law rewrites the definition by the tests; backwards a test that does not refuse is false. Assumes nothing.
 use Prim.Native.Nat.{ℕ, _+_, _≤_, _<_}
 use native.Mathlib.Omega.{arith}
-use mathlib.Core.Path.{_≡_, refl, sym, ap, _∙_}
-use mathlib.Core.Bool.{Bool, true, false, not, cond}
+use mathlib.Core.Path.{_≡_, refl, ap, _∙_}
+use mathlib.Core.Bool.{Bool, true, false, not}
 use mathlib.Core.List.{List}
 use lib.ListN.{length}
 use lib.Dec.{ltb, leb, eqb}
-use borrow.Author.Tests.{eq-eqb, ne-eqb, eqb-true, not-false, lt-ltb, le-ltb, ltb-false, le-leb, lt-leb, leb-false}
+use borrow.Author.Tests.{eq-eqb, ne-eqb, eqb-true, not-false, lt-ltb, le-ltb, ltb-false, lt-leb, leb-false}
 use Rattle.jobs.proofs.Below.{by-cases}
 use Rattle.jobfile.specs.Meaning.{lengthOf, kindOf, faultsOf, rowOf, strays, refuse, headAt, jobAt, byKind, recordAt}
 use Rattle.jobfile.specs.declared.Record.{Record}

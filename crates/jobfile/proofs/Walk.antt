@@ -4,7 +4,6 @@ use Prim.Native.Nat.{ℕ, zero, suc, _+_, _*_, _/_, _≤_, _<_}
 use native.Mathlib.Nat.{mul-div-cancel}
 use native.Mathlib.Omega.{arith}
 use mathlib.Core.Path.{_≡_, refl, sym, ap, _∙_}
-use mathlib.Core.Bool.{false, true, true≢false, false≢true}
 use mathlib.Core.List.{List, [], _∷_, _++_, append-assoc}
 use lib.ListN.{length, drop, length-append, length-drop, drop-of-length-le}
 use lib.Seq.{drop-drop}
@@ -12,13 +11,12 @@ use lib.Dec.{ltb}
 use borrow.Author.Tests.{lt-ltb, le-ltb, ltb-false}
 use Rattle.jobs.proofs.Below.{by-cases}
 use Rattle.jobs.specs.Table.{rowWords, jobs}
-use Rattle.jobfile.specs.Bytes.{over, words}
-use Rattle.jobfile.specs.Meaning.{rowOf, recordAt, Meaning, holds, refused, withRow, walk, headlessK, meaning, headed, answered, filled, Good}
+use Rattle.jobfile.specs.Bytes.{words}
+use Rattle.jobfile.specs.Meaning.{rowOf, recordAt, Meaning, holds, refused, withRow, walk, headlessK, meaning, answered, filled, Good}
 use Rattle.jobfile.specs.declared.Record.{Record}
 use Rattle.jobfile.specs.declared.Record.the-variants.{Head, Job, Bad}
-use Rattle.jobfile.specs.declared.Contents.{Contents}
 use Rattle.jobfile.specs.declared.Contents.the-variants.{Jobs, Refused}
-use Rattle.jobfile.proofs.Records.{IsHead, IsJob, as-head, as-job}
+use Rattle.jobfile.proofs.Records.{as-head, as-job}
 
 pub by-record {ℓ} : {P : Type ℓ} (r : Record) → ((k : ℕ) → r ≡ Head k → P) → (r ≡ Job → P) → ((number place : ℕ) → r ≡ Bad number place → P) → P
 by-record (Head k) f g h = f k refl

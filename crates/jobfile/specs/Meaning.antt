@@ -83,9 +83,9 @@ walk [] pass at n k = holds [] k
 walk (b ∷ left) (suc pass) at n k = walk left pass at n k
 walk (b ∷ left) zero at n k =
     elim (recordAt (b ∷ left) at n) [
-      Head faults ↦ walk left 4 (at + 5) n faults
-    | Job ↦ withRow (rowOf (b ∷ left)) (walk left 19 (at + 20) (n + 1) k)
-    | Bad number place ↦ refused number place
+      | Head faults ↦ walk left 4 (at + 5) n faults
+      | Job ↦ withRow (rowOf (b ∷ left)) (walk left 19 (at + 20) (n + 1) k)
+      | Bad number place ↦ refused number place
     ]
 
 -- Whether a file has a head.

@@ -1,7 +1,8 @@
 // Reading a job file into a table and k.
 
-use jobs::{MOST_FAULTS, MOST_JOBS, ROW};
-
+use jobs::MOST_FAULTS;
+use jobs::MOST_JOBS;
+use jobs::ROW;
 ghost use mathlib.Core.Path.{_≡_};
 ghost use Prim.Native.Nat.{_+_, _≤_, _<_};
 ghost use lib.ListN.{length, getD, drop};
@@ -81,14 +82,23 @@ fn head(left: &[u8], at: usize) -> Record
     ensures { λ r. ⌜ r ≡ headAt (now (left .entry)) at ⌝ }
 {
     if u16_at(left, 0) != 3 {
-        return Record::Bad { number: 21, place: at };
+        return Record::Bad {
+            number: 21,
+            place: at,
+        };
     }
     if at != 0 {
-        return Record::Bad { number: 23, place: at };
+        return Record::Bad {
+            number: 23,
+            place: at,
+        };
     }
     let k = byte_at(left, 4);
     if MOST_FAULTS < k {
-        return Record::Bad { number: 25, place: at };
+        return Record::Bad {
+            number: 25,
+            place: at,
+        };
     }
     Record::Head(k)
 }
@@ -99,13 +109,22 @@ fn job(left: &[u8], at: usize, n: usize) -> Record
     ensures { λ r. ⌜ r ≡ jobAt (now (left .entry)) at n ⌝ }
 {
     if u16_at(left, 0) != 18 {
-        return Record::Bad { number: 21, place: at };
+        return Record::Bad {
+            number: 21,
+            place: at,
+        };
     }
     if MOST_JOBS <= n {
-        return Record::Bad { number: 24, place: at };
+        return Record::Bad {
+            number: 24,
+            place: at,
+        };
     }
     if strays(left) {
-        return Record::Bad { number: 25, place: at };
+        return Record::Bad {
+            number: 25,
+            place: at,
+        };
     }
     Record::Job
 }
@@ -115,20 +134,32 @@ fn record_of(left: &[u8], at: usize, n: usize) -> Record
     ensures { λ r. ⌜ r ≡ recordAt (now (left .entry)) at n ⌝ }
 {
     if left.len() < 2 {
-        return Record::Bad { number: 20, place: at };
+        return Record::Bad {
+            number: 20,
+            place: at,
+        };
     }
     let length = u16_at(left, 0) as usize;
     if length < 2 {
-        return Record::Bad { number: 21, place: at };
+        return Record::Bad {
+            number: 21,
+            place: at,
+        };
     }
     if left.len() < 2 + length {
-        return Record::Bad { number: 20, place: at };
+        return Record::Bad {
+            number: 20,
+            place: at,
+        };
     }
     let kind = u16_at(left, 2);
     match kind {
         1 => head(left, at),
         2 => job(left, at, n),
-        _ => Record::Bad { number: 22, place: at },
+        _ => Record::Bad {
+            number: 22,
+            place: at,
+        },
     }
 }
 
@@ -137,7 +168,10 @@ fn record_at(file: &[u8], at: usize, n: usize) -> Record
     ensures { λ r. ⌜ r ≡ recordAt (drop at (now (file .entry))) at n ⌝ }
 {
     if file.len() <= at {
-        return Record::Bad { number: 20, place: at };
+        return Record::Bad {
+            number: 20,
+            place: at,
+        };
     }
     record_of(&file[at..], at, n)
 }
@@ -184,7 +218,10 @@ fn answer(file: &[u8], room: usize) -> Contents
         }
     }
     if room < n * ROW {
-        return Contents::Refused { number: 26, place: file.len() };
+        return Contents::Refused {
+            number: 26,
+            place: file.len(),
+        };
     }
     Contents::Jobs { n, k }
 }
@@ -193,7 +230,7 @@ fn answer(file: &[u8], room: usize) -> Contents
 fn first_job(file: &[u8]) -> usize
     ensures { λ r. ⌜ r ≡ cond (headed (now (file .entry))) 5 0 ⌝ }
 {
-    match record_at(file, 0, 0) {
+    match next_at(file, 0, 0) {
         Record::Head(_) => HEAD_BYTES,
         _ => 0,
     }

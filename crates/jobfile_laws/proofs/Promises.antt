@@ -2,9 +2,9 @@
 -- what was read gives the same bytes exactly if the file had a head. Each is the theorem on files, with the buffers put in. Assumes nothing.
 use Prim.Native.Nat.{ℕ, _+_, _*_, _≤_}
 use native.Mathlib.Omega.{arith}
-use mathlib.Core.Path.{_≡_, refl, sym, ap, _∙_, subst}
+use mathlib.Core.Path.{_≡_, refl, sym, ap, _∙_}
 use mathlib.Core.Logic.{_↔_}
-use mathlib.Core.Bool.{true, false}
+use mathlib.Core.Bool.{true}
 use mathlib.Core.List.{List}
 use lib.ListN.{length, take, drop}
 use lib.Seq.{take-at}
@@ -16,7 +16,7 @@ use Rattle.jobs.specs.declared.Check.the-variants.{Fine}
 use Rattle.jobs.proofs.Below.{by-cases}
 use Rattle.jobs.proofs.Refusals.{good}
 use Rattle.jobfile.specs.Bytes.{over}
-use Rattle.jobfile.specs.Meaning.{Meaning, holds, headed, meaning, answered, filled, Good, ReadsTo}
+use Rattle.jobfile.specs.Meaning.{Meaning, holds, headed, meaning, filled, ReadsTo}
 use Rattle.jobfile.specs.declared.Contents.{Contents}
 use Rattle.jobfile.specs.declared.Contents.the-variants.{Jobs}
 use Rattle.jobfile.proofs.Walk.{answers-table, good-file}
@@ -58,9 +58,10 @@ pub read-what-was-written : (table : List ℕ) (k : ℕ) (buffer : List ℕ) (le
     → (room : List ℕ) (answer : Contents) (after : List ℕ) → ReadsTo (take len file) room answer after → length table ≤ length room
     → (answer ≡ Jobs (jobs table) k) × (after ≡ over table room)
 read-what-was-written table k buffer len file w room answer after r h =
-    let means = written-means table k buffer len file w in
-    (r .answers ∙ sym (answers-table (meaning (take len file)) (length room) (length (take len file)) table (jobs table) k means h refl),
-    r .fills ∙ fills-table (meaning (take len file)) table k room means h)
+    let means = written-means table k buffer len file w in (
+      r .answers ∙ sym (answers-table (meaning (take len file)) (length room) (length (take len file)) table (jobs table) k means h refl),
+      r .fills ∙ fills-table (meaning (take len file)) table k room means h,
+    )
 
 -- ---- writing what was read
 
@@ -77,7 +78,7 @@ rows-read file room n k after bytes r =
     let faults : g .k ≡ k = cc in
     let laid : after ≡ over table room = r .fills ∙ fills-table (meaning file) table (g .k) room means fits in
     let rows : take (n * rowWords) after ≡ table =
-          ap (take (n * rowWords)) laid ∙ take-at table (drop (length table) room) (n * rowWords) (whole ∙ ap (λ (m : ℕ). m * rowWords) (sym count)) in
+    ap (take (n * rowWords)) laid ∙ take-at table (drop (length table) room) (n * rowWords) (whole ∙ ap (λ (m : ℕ). m * rowWords) (sym count)) in
     means ∙ ap (holds table) faults ∙ ap (λ (t : List ℕ). holds t k) (sym rows)
 
 pub write-what-was-read : (file room : List ℕ) (n k : ℕ) (table : List ℕ) → IsBytes file → ReadsTo file room (Jobs n k) table
@@ -87,10 +88,11 @@ write-what-was-read file room n k table bytes r buffer answer after w h =
     let rows = take (n * rowWords) table in
     let means = rows-read file room n k table bytes r in
     let short : length (fileOf rows k) ≤ length buffer =
-          by-cases (headed file)
-          (λ t. omega (arith, ap length (headed-same-bytes file rows k bytes means t)))
-          (λ t. omega (arith, headless-five-more file rows k bytes means t)) in
-    let fine = all-fine rows k (length buffer) (read-table-fine file rows k bytes means) (read-faults-fine file rows k bytes means) short in
-    (w .answers ∙ ap (λ (c : Check). reported c (length (fileOf rows k))) fine,
-    w .fills ∙ ap (λ (c : Check). written c (fileOf rows k) buffer) fine,
-    same-bytes-iff-headed file rows k bytes means)
+    by-cases (headed file)
+    (λ t. omega (arith, ap length (headed-same-bytes file rows k bytes means t)))
+    (λ t. omega (arith, headless-five-more file rows k bytes means t)) in
+    let fine = all-fine rows k (length buffer) (read-table-fine file rows k bytes means) (read-faults-fine file rows k bytes means) short in (
+      w .answers ∙ ap (λ (c : Check). reported c (length (fileOf rows k))) fine,
+      w .fills ∙ ap (λ (c : Check). written c (fileOf rows k) buffer) fine,
+      same-bytes-iff-headed file rows k bytes means,
+    )

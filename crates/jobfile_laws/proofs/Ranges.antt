@@ -8,15 +8,14 @@ use mathlib.Core.Bool.{Bool, true, false, not}
 use mathlib.Core.List.{List, [], _∷_, _++_}
 use lib.ListN.{length, getD, take, drop, length-append, length-drop, List·getD-append, List·getD-eq-default}
 use lib.Seq.{getD-take, getD-drop, getD-append-add}
-use lib.Dec.{ltb, leb, eqb, lit≤, lit<}
+use lib.Dec.{ltb, leb, lit≤, lit<}
 use borrow.Author.Tests.{ltb-true, ltb-false, le-ltb, leb-true, eq-eqb, not-false}
-use Rattle.jobs.specs.Below.{some, least}
+use Rattle.jobs.specs.Below.{least}
 use Rattle.jobs.specs.Table.{rowWords, jobs, lowest, highest, inRange}
-use Rattle.jobs.specs.Refusals.{after, first, given, cutRow, tooManyJobs, outOfRange, tableRefusals}
-use Rattle.jobs.specs.declared.Check.{Check}
-use Rattle.jobs.specs.declared.Check.the-variants.{Fine, Refused}
+use Rattle.jobs.specs.Refusals.{first, cutRow, tooManyJobs, outOfRange, tableRefusals}
+use Rattle.jobs.specs.declared.Check.the-variants.{Fine}
 use Rattle.jobs.proofs.Below.{by-cases, and-right, none-all, none-at, before-least, least-none}
-use Rattle.jobs.proofs.Refusals.{after-fine, not-given, given-unless}
+use Rattle.jobs.proofs.Refusals.{after-fine, not-given}
 use Rattle.jobfile.specs.Meaning.{strays}
 
 abbrev pub InRange : List ℕ → Type 0

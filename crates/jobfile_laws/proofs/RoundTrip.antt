@@ -1,18 +1,16 @@
 -- Reading what was written gives the table and k back. The head and each job that the writer writes are answered as such by the reader (head-again,
 -- job-again), with the row that was written; so the walk passes them one after the other. Assumes nothing.
 use Prim.Native.Nat.{ℕ, zero, suc, _+_, _*_, _^_, _≤_, _<_}
-use native.Mathlib.Nat.{mod-eq-of-lt}
 use native.Mathlib.Omega.{arith}
 use mathlib.Core.Path.{_≡_, refl, sym, ap, _∙_}
 use mathlib.Core.Bool.{false}
-use mathlib.Core.List.{List, [], _∷_, _++_, append-assoc}
+use mathlib.Core.List.{List, [], _∷_, _++_}
 use lib.ListN.{length, getD, take, drop, length-append, length-drop, take-append-drop}
-use lib.Seq.{length-take-le, take-at, drop-at}
+use lib.Seq.{length-take-le, drop-at}
 use lib.Dec.{lit<}
 use borrow.Author.Tests.{ltb-false}
 use Rattle.jobs.specs.Table.{rowWords, jobs}
 use Rattle.jobs.specs.Refusals.{first, tableRefusals, tooManyFaults}
-use Rattle.jobs.specs.declared.Check.{Check}
 use Rattle.jobs.specs.declared.Check.the-variants.{Fine}
 use Rattle.jobs.proofs.Refusals.{not-given, good}
 use Rattle.jobfile.specs.Bytes.{number, words}

@@ -1,12 +1,12 @@
 -- Writing what was read gives the same bytes exactly if the file had a head. A head and a job that were read are, byte for byte, what the writer writes of them
 -- (head-bytes, job-bytes); so the jobs are got back, and the file is they alone, or they after its head. Assumes nothing.
-use Prim.Native.Nat.{ℕ, zero, suc, _+_, _*_, _/_, _≤_, _<_}
+use Prim.Native.Nat.{ℕ, zero, suc, _+_, _*_, _/_, _≤_}
 use native.Mathlib.Nat.{mul-div-cancel}
 use native.Mathlib.Omega.{arith}
 use mathlib.Core.Path.{_≡_, refl, sym, ap, _∙_, subst}
 use mathlib.Core.Logic.{_↔_}
 use mathlib.Core.Bool.{true, false, true≢false}
-use mathlib.Core.List.{List, [], _∷_, _++_, append-assoc}
+use mathlib.Core.List.{List, [], _∷_, _++_}
 use lib.ListN.{length, take, drop, length-append, length-drop, take-append-drop}
 use lib.Seq.{take-at, drop-at, take-add, drop-drop}
 use lib.Dec.{ltb, lit<}
@@ -16,14 +16,14 @@ use Rattle.jobs.specs.Refusals.{first, tableRefusals, tooManyFaults}
 use Rattle.jobs.specs.declared.Check.the-variants.{Fine}
 use Rattle.jobs.proofs.Below.{by-cases}
 use Rattle.jobs.proofs.Refusals.{given-unless}
-use Rattle.jobfile.specs.Bytes.{number, words}
-use Rattle.jobfile.specs.Meaning.{lengthOf, kindOf, rowOf, recordAt, Meaning, holds, refused, withRow, walk, isHead, headed, headlessK, meaning}
-use Rattle.jobfile.specs.declared.Record.the-variants.{Head, Job, Bad}
+use Rattle.jobfile.specs.Bytes.{number}
+use Rattle.jobfile.specs.Meaning.{rowOf, recordAt, Meaning, holds, refused, withRow, walk, isHead, headed, headlessK, meaning}
+use Rattle.jobfile.specs.declared.Record.the-variants.{Head}
 use Rattle.jobfile.proofs.Bytes.{row-length}
-use Rattle.jobfile.proofs.Records.{IsHead, IsJob, as-head, as-job, head-answers}
+use Rattle.jobfile.proofs.Records.{IsHead, IsJob, as-head, as-job}
 use Rattle.jobfile.proofs.Walk.{by-record, walk-ends, walk-head, walk-job, walk-bad}
 use Rattle.jobfile.proofs.Filling.{headed-is}
-use Rattle.jobfile_write.specs.Writing.{bytesOf, wordBytes, headBytes, jobBytes, jobsBytes, fileOf}
+use Rattle.jobfile_write.specs.Writing.{headBytes, jobBytes, jobsBytes, fileOf}
 use Rattle.jobfile_write.proofs.Lengths.{jobsBytes-length, fileOf-length}
 use Rattle.jobfile_laws.proofs.Digits.{IsBytes, bytes-drop, bytes-back, wordBytes-words}
 use Rattle.jobfile_laws.proofs.Ranges.{InRange, in-range-fine, more-in-range}
@@ -39,19 +39,21 @@ parts a b c l =
 head-bytes : (left : List ℕ) (at k : ℕ) → IsBytes left → IsHead left at k → headBytes k ≡ take 5 left
 unfolding headBytes
 head-bytes left at k h i =
-    rw
-    (bytes-back 2 3 left h (omega arith) (i .long),
-    bytes-back 2 1 (drop 2 left) (bytes-drop 2 left h) (omega (arith, length-drop 2 left)) (i .kind),
-    bytes-back 1 k (drop 4 left) (bytes-drop 4 left h) (omega (arith, length-drop 4 left)) (i .faults))
+    rw (
+      bytes-back 2 3 left h (omega arith) (i .long),
+      bytes-back 2 1 (drop 2 left) (bytes-drop 2 left h) (omega (arith, length-drop 2 left)) (i .kind),
+      bytes-back 1 k (drop 4 left) (bytes-drop 4 left h) (omega (arith, length-drop 4 left)) (i .faults),
+    )
     (parts 2 2 1 left)
 
 job-bytes : (left : List ℕ) (n : ℕ) → IsBytes left → IsJob left n → jobBytes (rowOf left) ≡ take 20 left
 unfolding jobBytes
 job-bytes left n h i =
-    rw
-    (bytes-back 2 18 left h (omega arith) (i .long),
-    bytes-back 2 2 (drop 2 left) (bytes-drop 2 left h) (omega (arith, length-drop 2 left)) (i .kind),
-    wordBytes-words rowWords (drop 4 left) (bytes-drop 4 left h) (omega (arith, length-drop 4 left)))
+    rw (
+      bytes-back 2 18 left h (omega arith) (i .long),
+      bytes-back 2 2 (drop 2 left) (bytes-drop 2 left h) (omega (arith, length-drop 2 left)) (i .kind),
+      wordBytes-words rowWords (drop 4 left) (bytes-drop 4 left h) (omega (arith, length-drop 4 left)),
+    )
     (parts 2 2 16 left)
 
 -- ---- the jobs
@@ -113,7 +115,7 @@ jobs-read (suc fuel) left at n k table faults l few h headless e =
     let rest = drop 20 left in
     let apart = row-apart (rowOf left) (walk rest 0 (at + 20) (n + 1) k) table faults (sym (walk-job left at n k r) ∙ e) in
     let j = jobs-read fuel rest (at + 20) (n + 1) k (apart .0) faults (omega (arith, length-drop 20 left)) (omega (arith, i .few)) (bytes-drop 20 left h)
-            (λ k′ q. let f = as-head rest (at + 20) (n + 1) k′ q .first in absurd (omega arith)) (apart .1) in
+    (λ k′ q. let f = as-head rest (at + 20) (n + 1) k′ q .first in absurd (omega arith)) (apart .1) in
     (j .0, subst (λ (t : List ℕ). JobsRead left n t) (apart .2) (jobs-more left n (apart .0) h i (j .1))))
     (λ number place r.
     let bad = walk-bad left at n k number place (ltb-true _ _ t) r in
@@ -134,7 +136,7 @@ module _ (file table : List ℕ) (k : ℕ) (bytes : IsBytes file) (means : meani
       let h = headed-is (recordAt file 0 0) t in
       let i = as-head file 0 0 (h .0) (h .1) in
       let j = jobs-read (length (drop 5 file)) (drop 5 file) 5 0 (h .0) table k (omega arith) (omega arith) (bytes-drop 5 file bytes)
-              (λ k′ q. let f = as-head (drop 5 file) 5 0 k′ q .first in absurd (omega arith)) (sym (walk-head file 0 0 headlessK (h .0) (h .1)) ∙ means) in
+      (λ k′ q. let f = as-head (drop 5 file) 5 0 k′ q .first in absurd (omega arith)) (sym (walk-head file 0 0 headlessK (h .0) (h .1)) ∙ means) in
       (subst (λ (f : ℕ). IsHead file 0 f) (j .0) i, j .1)
 
   -- a file without a head: jobs alone
@@ -160,9 +162,10 @@ module _ (file table : List ℕ) (k : ℕ) (bytes : IsBytes file) (means : meani
 
   -- writing what was read gives the same bytes exactly if the file had a head
   pub same-bytes-iff-headed : (fileOf table k ≡ file) ↔ (headed file ≡ true)
-  same-bytes-iff-headed =
-      ((λ e. by-cases (headed file) (λ t. t) (λ t. absurd (omega (arith, ap length e, headless-five-more t)))),
-      headed-same-bytes)
+  same-bytes-iff-headed = (
+    (λ e. by-cases (headed file) (λ t. t) (λ t. absurd (omega (arith, ap length e, headless-five-more t)))),
+    headed-same-bytes,
+  )
 
   -- and what was read is not refused by 1, 2, 3 or 4
   pub read-table-fine : first (tableRefusals table) ≡ Fine

@@ -5,11 +5,11 @@ use native.Mathlib.Omega.{arith}
 use mathlib.Core.Path.{_≡_, refl, sym, ap, _∙_}
 use mathlib.Core.List.{List, _++_}
 use lib.ListN.{length, take, drop, getD}
-use lib.Seq.{length-take-le, take-all}
+use lib.Seq.{length-take-le}
 use borrow.Rule.Slice.PartMut.{midOf, putMid}
 use Rattle.jobs.specs.Table.{rowWords, jobs}
 use Rattle.jobfile.specs.Bytes.{over}
-use Rattle.jobfile.proofs.Over.{over-length, over-lent, lent}
+use Rattle.jobfile.proofs.Over.{over-length, over-lent}
 use Rattle.jobfile_write.specs.Writing.{bytesOf, wordBytes, jobBytes, jobsBytes}
 use Rattle.jobfile_write.proofs.Lengths.{wordBytes-length, wordBytes-more, jobsBytes-length, jobsBytes-more}
 

@@ -49,12 +49,13 @@ pub jobsBytes-length : (n : ℕ) (table : List ℕ) → n * rowWords ≤ length 
 unfolding jobsBytes
 jobsBytes-length zero table h = refl
 jobsBytes-length (suc n) table h =
-    omega
-    (arith,
-    length-append (jobBytes (take rowWords table)) (jobsBytes n (drop rowWords table)),
-    jobBytes-length (take rowWords table),
-    length-take-le rowWords table (omega arith),
-    jobsBytes-length n (drop rowWords table) (omega (arith, length-drop rowWords table)))
+    omega (
+      arith,
+      length-append (jobBytes (take rowWords table)) (jobsBytes n (drop rowWords table)),
+      jobBytes-length (take rowWords table),
+      length-take-le rowWords table (omega arith),
+      jobsBytes-length n (drop rowWords table) (omega (arith, length-drop rowWords table)),
+    )
 
 -- one job more
 pub jobsBytes-more : (n : ℕ) (table : List ℕ) → jobsBytes (n + 1) table ≡ jobsBytes n table ++ jobBytes (take rowWords (drop (n * rowWords) table))
@@ -74,8 +75,9 @@ jobsBytes-more (suc n) table =
 pub fileOf-length : (table : List ℕ) (k : ℕ) → length (fileOf table k) ≡ 5 + 20 * jobs table
 unfolding fileOf
 fileOf-length table k =
-    omega
-    (arith,
-    length-append (headBytes k) (jobsBytes (jobs table) table),
-    headBytes-length k,
-    jobsBytes-length (jobs table) table (div-mul-le-self (length table) rowWords))
+    omega (
+      arith,
+      length-append (headBytes k) (jobsBytes (jobs table) table),
+      headBytes-length k,
+      jobsBytes-length (jobs table) table (div-mul-le-self (length table) rowWords),
+    )

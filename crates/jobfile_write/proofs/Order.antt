@@ -1,18 +1,16 @@
 -- Laws of the order of write's refusals: 1 to 3 of the table, then 4, then 28. Assumes nothing.
-use Prim.Native.Nat.{ℕ, _+_, _*_, _≤_, _<_}
+use Prim.Native.Nat.{ℕ, _≤_, _<_}
 use native.Mathlib.Omega.{arith}
-use mathlib.Core.Path.{_≡_, refl, sym, ap, _∙_}
+use mathlib.Core.Path.{_≡_, sym, ap, _∙_}
 use mathlib.Core.List.{List, [], _∷_}
 use lib.ListN.{length}
 use lib.Dec.{ltb}
 use borrow.Author.Tests.{lt-ltb, le-ltb, ltb-false}
-use Rattle.jobs.specs.Table.{jobs}
 use Rattle.jobs.specs.Refusals.{after, first, tableRefusals, tooManyFaults}
 use Rattle.jobs.specs.declared.Check.{Check}
 use Rattle.jobs.specs.declared.Check.the-variants.{Fine, Refused}
 use Rattle.jobs.proofs.Refusals.{first-append, after-fine, not-given}
 use Rattle.jobfile_write.specs.Writing.{fileOf, noRoom, writeRefusals}
-use Rattle.jobfile_write.proofs.Lengths.{fileOf-length}
 
 module _ (table : List ℕ) (k room : ℕ) where
   in-order : first (writeRefusals table k room) ≡ after (first (tableRefusals table)) (after (tooManyFaults k) (after (noRoom table k room) Fine))

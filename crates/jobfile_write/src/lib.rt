@@ -1,8 +1,9 @@
 // Writing a table and k as a job file. Each record is written from the first free byte of the lent buffer onward.
 
-use jobfile::{HEAD_BYTES, JOB_BYTES};
-use jobs::{Check, ROW};
-
+use jobfile::HEAD_BYTES;
+use jobfile::JOB_BYTES;
+use jobs::Check;
+use jobs::ROW;
 ghost use mathlib.Core.Path.{_≡_};
 ghost use Prim.Native.Nat.{_+_, _*_, _≤_};
 ghost use lib.ListN.{length, take};
@@ -99,7 +100,10 @@ fn writable(table: &[u32], k: u32, room: usize) -> Check
             Check::Fine => {
                 let needed = HEAD_BYTES + JOB_BYTES * jobs::jobs(table);
                 if room < needed {
-                    return Check::Refused { number: 28, place: needed };
+                    return Check::Refused {
+                        number: 28,
+                        place: needed,
+                    };
                 }
                 Check::Fine
             }

@@ -2,7 +2,7 @@
 -- means; each turn is a law of the walk. The measure is what is left of the file. Assumes nothing.
 use Prim.Native.Nat.{ℕ, _+_, _-_}
 use native.Mathlib.Omega.{arith}
-use mathlib.Core.Path.{_≡_, sym, ap, _∙_}
+use mathlib.Core.Path.{sym, _∙_}
 use mathlib.Core.List.{List, [], _++_}
 use lib.ListN.{length, drop}
 use borrow.Author.Needs.{needs}
@@ -10,9 +10,6 @@ use Rattle.jobfile.specs.Meaning.{rowOf}
 use Rattle.jobfile.proofs.Walk.{Passed, passed-none, passed-head, passed-job, passed-bad, passed-all, passed-length, passed-count, answers-refusal, answers-no-room, answers-table}
 use Rattle.jobfile.proofs.answer.Statement.{statement}
 use Rattle.jobfile.proofs.answer.Tie as tie
-use Rattle.jobfile.proofs.answer.Reads as reads
-use Rattle.jobfile.proofs.answer.Lts as lts
-use Rattle.jobfile.proofs.next_at.Reads as next-at-reads
 
 abbrev Inv-loop : tie.InvT-loop
 Inv-loop file room at₀ n₀ k₀ at n k = (rows : List ℕ) × Passed file at n k rows

@@ -9,10 +9,6 @@ use borrow.Author.Needs.{needs}
 use Rattle.jobfile.proofs.Filling.{Filling, filling-none, filling-length, next-inside, next-fits, filling-more, filling-all}
 use Rattle.jobfile.proofs.fill.Statement.{statement}
 use Rattle.jobfile.proofs.fill.Tie as tie
-use Rattle.jobfile.proofs.fill.Reads as reads
-use Rattle.jobfile.proofs.fill.Lts as lts
-use Rattle.jobfile.proofs.fill_row.Reads as fill-row-reads
-use Rattle.jobfile.proofs.first_job.Reads as first-job-reads
 
 abbrev Inv-loop : tie.InvT-loop
 Inv-loop file table₀ at₀ words₀ table at words = Filling file table₀ table at words
@@ -30,10 +26,11 @@ row-room : (c : tie.In-loop Inv-loop μ-loop) → c .before .loop .words + rowWo
 row-room c =
     let s = c .before .before .before .before .before in
     let p = c .before .loop in
-    omega
-    (arith,
-    next-fits (s .args .file .now) (s .args .table .now) (p .table) (p .at) (p .words) (s .pre) (p .inv) (c .loop-test .taken),
-    filling-length (s .args .file .now) (s .args .table .now) (p .table) (p .at) (p .words) (s .pre) (p .inv))
+    omega (
+      arith,
+      next-fits (s .args .file .now) (s .args .table .now) (p .table) (p .at) (p .words) (s .pre) (p .inv) (c .loop-test .taken),
+      filling-length (s .args .file .now) (s .args .table .now) (p .table) (p .at) (p .words) (s .pre) (p .inv),
+    )
 
 first-job-requires : tie.Need-first-job-requires Inv-loop μ-loop
 first-job-requires c κs = search needs

@@ -5,7 +5,6 @@ use mathlib.Core.Path.{_≡_, refl, sym, ap, _∙_}
 use mathlib.Core.List.{List}
 use lib.ListN.{length, take, set}
 use lib.Seq.{length-take-le, take-all}
-use borrow.Author.Needs.{needs}
 use Rattle.jobs.specs.Table.{rowWords}
 use Rattle.jobfile.specs.Bytes.{over}
 use Rattle.jobfile.specs.Meaning.{rowOf}
@@ -13,9 +12,6 @@ use Rattle.jobfile.proofs.Bytes.{field-at, row-length}
 use Rattle.jobfile.proofs.Over.{over-length, over-one-more}
 use Rattle.jobfile.proofs.fill_row.Statement.{statement}
 use Rattle.jobfile.proofs.fill_row.Tie as tie
-use Rattle.jobfile.proofs.fill_row.Reads as reads
-use Rattle.jobfile.proofs.fill_row.Lts as lts
-use Rattle.jobfile.proofs.u32_at.Reads as u32-at-reads
 
 kept : (left table table₀ : List ℕ) (field : ℕ) → field ≤ rowWords → rowWords ≤ length table₀ → table ≡ over (take field (rowOf left)) table₀ → length table ≡ length table₀
 kept left table table₀ field h l e =
@@ -59,10 +55,11 @@ loop-again : tie.Need-loop-again Inv-loop μ-loop
 loop-again c =
     let left = c .before .before .before .before .before .args .left .now in
     let table = c .before .before .before .before .before .args .table .now in
-    let field = c .before .before .loop .field in
-    (omega arith,
-    ap (λ t. set t field (c .u32-at .result)) (c .before .before .loop .inv .1)
-    ∙ over-one-more (rowOf left) table field _ (omega (arith, row-length left)) (omega arith) (field-at left field (omega arith) ∙ sym (c .u32-at .ensures)))
+    let field = c .before .before .loop .field in (
+      omega arith,
+      ap (λ t. set t field (c .u32-at .result)) (c .before .before .loop .inv .1)
+          ∙ over-one-more (rowOf left) table field _ (omega (arith, row-length left)) (omega arith) (field-at left field (omega arith) ∙ sym (c .u32-at .ensures)),
+    )
 
 same-length : tie.Need-same-length Inv-loop μ-loop
 same-length c =

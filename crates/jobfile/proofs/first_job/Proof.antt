@@ -13,9 +13,6 @@ use Rattle.jobfile.proofs.Record.{the-type}
 use borrow.Author.Needs.{needs}
 use Rattle.jobfile.proofs.first_job.Statement.{statement}
 use Rattle.jobfile.proofs.first_job.Tie as tie
-use Rattle.jobfile.proofs.first_job.Reads as reads
-use Rattle.jobfile.proofs.first_job.Lts as lts
-use Rattle.jobfile.proofs.record_at.Reads as record-at-reads
 
 -- the tags of a job and of a bad record are no head's
 not-head : (r : Record) → OneOf (1 ∷ 2 ∷ []) (tagOf the-type r) → isHead r ≡ false
@@ -23,19 +20,19 @@ not-head (Head k) h = ⊎-elim (λ e. absurd (omega arith)) (λ e. absurd (omega
 not-head Job h = refl
 not-head (Bad number place) h = refl
 
-record-at-requires : tie.Need-record-at-requires
-record-at-requires c κs = search needs
+next-at-requires : tie.Need-next-at-requires
+next-at-requires c κs = search needs
 
 enum-told : tie.Need-enum-told
 enum-told c = search needs
 
 returns : tie.Need-returns
-returns c = rw (sym (c .before .before .record-at .ensures) ∙ c .enum-told .given .1)
+returns c = rw (sym (c .before .before .next-at .ensures) ∙ c .enum-told .given .1)
 
 returns-2 : tie.Need-returns-2
 returns-2 c =
-    let none : isHead (c .before .record-at .result) ≡ false = not-head (c .before .record-at .result) (c .match .keys2) in
-    rw (ap isHead (sym (c .before .record-at .ensures)) ∙ none)
+    let none : isHead (c .before .next-at .result) ≡ false = not-head (c .before .next-at .result) (c .match .keys2) in
+    rw (ap isHead (sym (c .before .next-at .ensures)) ∙ none)
 
 pub first-job-spec : {M : Type 1} → statement M
-first-job-spec = tie.close (tie.spec record-at-requires enum-told returns returns-2)
+first-job-spec = tie.close (tie.spec next-at-requires enum-told returns returns-2)

@@ -2,7 +2,6 @@
 use Prim.Native.Nat.{_<_, _≤_}
 use mathlib.Core.Path.{_≡_, ap, _∙_}
 use native.Mathlib.Omega.{arith}
-use lib.Dec.{ltb}
 use borrow.Author.Tests.{eq-eqb, ne-eqb, lt-ltb, le-ltb}
 use Rattle.jobfile.specs.Meaning.{lengthOf, faultsOf, headAt}
 use Rattle.jobfile.specs.declared.Record.the-variants.{Head}
@@ -10,10 +9,6 @@ use Rattle.jobfile.proofs.Bytes.{one-byte}
 use borrow.Author.Needs.{needs}
 use Rattle.jobfile.proofs.head.Statement.{statement}
 use Rattle.jobfile.proofs.head.Tie as tie
-use Rattle.jobfile.proofs.head.Reads as reads
-use Rattle.jobfile.proofs.head.Lts as lts
-use Rattle.jobfile.proofs.byte_at.Reads as byte-at-reads
-use Rattle.jobfile.proofs.u16_at.Reads as u16-at-reads
 
 u16-at-requires : tie.Need-u16-at-requires
 u16-at-requires c κs = search needs

@@ -7,10 +7,6 @@ use Rattle.jobfile.proofs.Walk.{good-file, refusal-fills-nothing}
 use borrow.Author.Needs.{needs}
 use Rattle.jobfile.proofs.read.Statement.{statement}
 use Rattle.jobfile.proofs.read.Tie as tie
-use Rattle.jobfile.proofs.read.Reads as reads
-use Rattle.jobfile.proofs.read.Lts as lts
-use Rattle.jobfile.proofs.answer.Reads as answer-reads
-use Rattle.jobfile.proofs.fill.Reads as fill-reads
 
 answer-requires : tie.Need-answer-requires
 answer-requires c κs = search needs

@@ -2,16 +2,13 @@
 use native.Mathlib.Omega.{arith}
 use Prim.Native.Nat.{_-_}
 use mathlib.Core.Path.{sym, ap, _∙_}
-use lib.ListN.{length, drop, drop-of-length-le, length-drop}
+use lib.ListN.{length, drop, length-drop}
 use lib.Seq.{take-all}
 use borrow.Author.Needs.{needs}
 use Rattle.jobfile.specs.Meaning.{recordAt}
 use Rattle.jobfile.proofs.Records.{too-few-bytes}
 use Rattle.jobfile.proofs.record_at.Statement.{statement}
 use Rattle.jobfile.proofs.record_at.Tie as tie
-use Rattle.jobfile.proofs.record_at.Reads as reads
-use Rattle.jobfile.proofs.record_at.Lts as lts
-use Rattle.jobfile.proofs.record_of.Reads as record-of-reads
 
 returns : tie.Need-returns
 returns c =

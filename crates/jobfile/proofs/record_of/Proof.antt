@@ -5,11 +5,6 @@ use borrow.Author.Needs.{needs}
 use Rattle.jobfile.proofs.Records.{too-few-bytes, length-below-two, cut-off, whole, kind-one, kind-two, kind-other}
 use Rattle.jobfile.proofs.record_of.Statement.{statement}
 use Rattle.jobfile.proofs.record_of.Tie as tie
-use Rattle.jobfile.proofs.record_of.Reads as reads
-use Rattle.jobfile.proofs.record_of.Lts as lts
-use Rattle.jobfile.proofs.head.Reads as head-reads
-use Rattle.jobfile.proofs.job.Reads as job-reads
-use Rattle.jobfile.proofs.u16_at.Reads as u16-at-reads
 
 returns : tie.Need-returns
 returns c = let a = c .before .before .args in sym (too-few-bytes (a .left .now) (a .at) (a .n) (c .if1 .taken))

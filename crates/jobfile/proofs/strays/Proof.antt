@@ -1,11 +1,11 @@
 -- `jobfile::strays` meets its contract. The loop's invariant: no field passed is outside its range. Assumes nothing.
 use Prim.Native.Nat.{ℕ, _+_, _*_, _≤_, _<_, _-_}
 use native.Mathlib.Omega.{arith}
-use mathlib.Core.Path.{_≡_, sym, ap, _∙_}
+use mathlib.Core.Path.{_≡_, sym, _∙_}
 use mathlib.Core.Bool.{Bool, not, false}
 use mathlib.Core.List.{List}
 use lib.ListN.{getD}
-use borrow.Author.Count.{below-none, below-more}
+use borrow.Author.Count.{below-more}
 use Rattle.jobs.specs.Table.{rowWords, inRange}
 use Rattle.jobs.proofs.Below.{some-at, none-all}
 use Rattle.jobfile.specs.Bytes.{numberAt}
@@ -13,10 +13,6 @@ use Rattle.jobfile.specs.Meaning.{rowOf}
 use Rattle.jobfile.proofs.Bytes.{field-at}
 use Rattle.jobfile.proofs.strays.Statement.{statement}
 use Rattle.jobfile.proofs.strays.Tie as tie
-use Rattle.jobfile.proofs.strays.Reads as reads
-use Rattle.jobfile.proofs.strays.Lts as lts
-use Rattle.jobfile.proofs.u32_at.Reads as u32-at-reads
-use Rattle.jobs.proofs.in_range.Reads as in-range-reads
 
 -- what the code tests of a field is what the definition tests
 tested : (left : List ℕ) (field v : ℕ) (b : Bool) → field < rowWords → v ≡ numberAt 4 (4 + 4 * field) left → b ≡ inRange field v

@@ -4,9 +4,6 @@ use Rattle.jobfile.proofs.Bytes.{two-bytes}
 use borrow.Author.Needs.{needs}
 use Rattle.jobfile.proofs.u16_at.Statement.{statement}
 use Rattle.jobfile.proofs.u16_at.Tie as tie
-use Rattle.jobfile.proofs.u16_at.Reads as reads
-use Rattle.jobfile.proofs.u16_at.Lts as lts
-use Rattle.jobfile.proofs.byte_at.Reads as byte-at-reads
 
 byte-at-requires : tie.Need-byte-at-requires
 byte-at-requires c κs = search needs

@@ -4,9 +4,6 @@ use Rattle.jobfile.proofs.Bytes.{four-bytes}
 use borrow.Author.Needs.{needs}
 use Rattle.jobfile.proofs.u32_at.Statement.{statement}
 use Rattle.jobfile.proofs.u32_at.Tie as tie
-use Rattle.jobfile.proofs.u32_at.Reads as reads
-use Rattle.jobfile.proofs.u32_at.Lts as lts
-use Rattle.jobfile.proofs.u16_at.Reads as u16-at-reads
 
 u16-at-requires : tie.Need-u16-at-requires
 u16-at-requires c κs = search needs

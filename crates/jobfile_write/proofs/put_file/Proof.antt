@@ -7,10 +7,6 @@ use Rattle.jobfile_write.proofs.Lengths.{headBytes-length}
 use borrow.Author.Needs.{needs}
 use Rattle.jobfile_write.proofs.put_file.Statement.{statement}
 use Rattle.jobfile_write.proofs.put_file.Tie as tie
-use Rattle.jobfile_write.proofs.put_file.Reads as reads
-use Rattle.jobfile_write.proofs.put_file.Lts as lts
-use Rattle.jobfile_write.proofs.put_head.Reads as put-head-reads
-use Rattle.jobfile_write.proofs.put_jobs.Reads as put-jobs-reads
 
 put-head-requires : tie.Need-put-head-requires
 put-head-requires c κs = search needs

@@ -7,10 +7,6 @@ use Rattle.jobfile_write.specs.Writing.{bytesOf, headBytes}
 use borrow.Author.Needs.{needs}
 use Rattle.jobfile_write.proofs.put_head.Statement.{statement}
 use Rattle.jobfile_write.proofs.put_head.Tie as tie
-use Rattle.jobfile_write.proofs.put_head.Reads as reads
-use Rattle.jobfile_write.proofs.put_head.Lts as lts
-use Rattle.jobfile_write.proofs.put_u16.Reads as put-u16-reads
-use Rattle.jobfile_write.proofs.put_u8.Reads as put-u8-reads
 
 put-u16-requires : tie.Need-put-u16-requires
 put-u16-requires c κs = search needs

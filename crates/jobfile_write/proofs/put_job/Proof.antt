@@ -9,10 +9,6 @@ use Rattle.jobfile_write.specs.Writing.{bytesOf, wordBytes, jobBytes}
 use borrow.Author.Needs.{needs}
 use Rattle.jobfile_write.proofs.put_job.Statement.{statement}
 use Rattle.jobfile_write.proofs.put_job.Tie as tie
-use Rattle.jobfile_write.proofs.put_job.Reads as reads
-use Rattle.jobfile_write.proofs.put_job.Lts as lts
-use Rattle.jobfile_write.proofs.put_u16.Reads as put-u16-reads
-use Rattle.jobfile_write.proofs.put_words.Reads as put-words-reads
 
 put-u16-requires : tie.Need-put-u16-requires
 put-u16-requires c κs = search needs

@@ -8,9 +8,6 @@ use Rattle.jobfile.proofs.Over.{lent, part-length}
 use Rattle.jobfile_write.proofs.Laid.{JobsLaid, jobs-none, jobs-length, row-left, job-room, jobs-more, jobs-all}
 use Rattle.jobfile_write.proofs.put_jobs.Statement.{statement}
 use Rattle.jobfile_write.proofs.put_jobs.Tie as tie
-use Rattle.jobfile_write.proofs.put_jobs.Reads as reads
-use Rattle.jobfile_write.proofs.put_jobs.Lts as lts
-use Rattle.jobfile_write.proofs.put_job.Reads as put-job-reads
 
 abbrev Inv-loop : tie.InvT-loop
 Inv-loop table free₀ words₀ at₀ free words at = JobsLaid table free₀ free words at

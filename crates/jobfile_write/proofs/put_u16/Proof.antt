@@ -7,9 +7,6 @@ use Rattle.jobfile_write.specs.Writing.{bytesOf}
 use borrow.Author.Needs.{needs}
 use Rattle.jobfile_write.proofs.put_u16.Statement.{statement}
 use Rattle.jobfile_write.proofs.put_u16.Tie as tie
-use Rattle.jobfile_write.proofs.put_u16.Reads as reads
-use Rattle.jobfile_write.proofs.put_u16.Lts as lts
-use Rattle.jobfile_write.proofs.put_u8.Reads as put-u8-reads
 
 put-u8-requires : tie.Need-put-u8-requires
 put-u8-requires c κs = search needs

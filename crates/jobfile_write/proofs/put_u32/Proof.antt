@@ -7,9 +7,6 @@ use Rattle.jobfile_write.specs.Writing.{bytesOf}
 use borrow.Author.Needs.{needs}
 use Rattle.jobfile_write.proofs.put_u32.Statement.{statement}
 use Rattle.jobfile_write.proofs.put_u32.Tie as tie
-use Rattle.jobfile_write.proofs.put_u32.Reads as reads
-use Rattle.jobfile_write.proofs.put_u32.Lts as lts
-use Rattle.jobfile_write.proofs.put_u16.Reads as put-u16-reads
 
 put-u16-requires : tie.Need-put-u16-requires
 put-u16-requires c κs = search needs

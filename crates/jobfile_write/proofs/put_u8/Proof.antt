@@ -5,8 +5,6 @@ use Rattle.jobfile_write.specs.Writing.{bytesOf}
 use borrow.Author.Needs.{needs}
 use Rattle.jobfile_write.proofs.put_u8.Statement.{statement}
 use Rattle.jobfile_write.proofs.put_u8.Tie as tie
-use Rattle.jobfile_write.proofs.put_u8.Reads as reads
-use Rattle.jobfile_write.proofs.put_u8.Lts as lts
 
 cast-free : tie.Need-cast-free
 cast-free c = search needs

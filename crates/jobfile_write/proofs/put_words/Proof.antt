@@ -9,9 +9,6 @@ use Rattle.jobfile.proofs.Over.{part-length}
 use Rattle.jobfile_write.proofs.Laid.{Words, words-none, words-length, words-more, words-all}
 use Rattle.jobfile_write.proofs.put_words.Statement.{statement}
 use Rattle.jobfile_write.proofs.put_words.Tie as tie
-use Rattle.jobfile_write.proofs.put_words.Reads as reads
-use Rattle.jobfile_write.proofs.put_words.Lts as lts
-use Rattle.jobfile_write.proofs.put_u32.Reads as put-u32-reads
 
 abbrev Inv-loop : tie.InvT-loop
 Inv-loop row free₀ field₀ at₀ free field at = Words row free₀ free field at

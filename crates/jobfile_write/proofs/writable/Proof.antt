@@ -6,11 +6,6 @@ use Rattle.jobfile_write.proofs.Order.{table-first, faults-next, room-l
 use borrow.Author.Needs.{needs}
 use Rattle.jobfile_write.proofs.writable.Statement.{statement}
 use Rattle.jobfile_write.proofs.writable.Tie as tie
-use Rattle.jobfile_write.proofs.writable.Reads as reads
-use Rattle.jobfile_write.proofs.writable.Lts as lts
-use Rattle.jobs.proofs.check_faults.Reads as check-faults-reads
-use Rattle.jobs.proofs.check_table.Reads as check-table-reads
-use Rattle.jobs.proofs.jobs.Reads as jobs-reads
 
 check-table-requires : tie.Need-check-table-requires
 check-table-requires c κs = search needs

@@ -12,11 +12,6 @@ use Rattle.jobfile_write.proofs.Order.{not-refused}
 use borrow.Author.Needs.{needs}
 use Rattle.jobfile_write.proofs.write.Statement.{statement}
 use Rattle.jobfile_write.proofs.write.Tie as tie
-use Rattle.jobfile_write.proofs.write.Reads as reads
-use Rattle.jobfile_write.proofs.write.Lts as lts
-use Rattle.jobfile_write.proofs.put_file.Reads as put-file-reads
-use Rattle.jobfile_write.proofs.writable.Reads as writable-reads
-use Rattle.jobs.proofs.jobs.Reads as jobs-reads
 
 writable-requires : tie.Need-writable-requires
 writable-requires c κs = search needs
