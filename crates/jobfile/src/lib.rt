@@ -50,7 +50,9 @@ fn u16_at(bytes: &[u8], at: usize) -> u32
     requires { ⌜ at + 2 ≤ length (now bytes) ⌝ }
     ensures { λ r. ⌜ (r ≡ numberAt 2 at (now (bytes .entry))) × (r < 65536) ⌝ }
 {
-    byte_at(bytes, at) + 256 * byte_at(bytes, at + 1)
+    let low = byte_at(bytes, at);
+    let high = byte_at(bytes, at + 1);
+    low + 256 * high
 }
 
 // The 32-bit number at an offset.
@@ -58,7 +60,9 @@ fn u32_at(bytes: &[u8], at: usize) -> u32
     requires { ⌜ at + 4 ≤ length (now bytes) ⌝ }
     ensures { λ r. ⌜ r ≡ numberAt 4 at (now (bytes .entry)) ⌝ }
 {
-    u16_at(bytes, at) + 65536 * u16_at(bytes, at + 2)
+    let low = u16_at(bytes, at);
+    let high = u16_at(bytes, at + 2);
+    low + 65536 * high
 }
 
 // Whether a field of a job's row is outside its range.

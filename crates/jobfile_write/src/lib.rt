@@ -29,16 +29,18 @@ fn put_u16(x: u32, free: &mut [u8])
     requires { ⌜ 2 ≤ length (now free) ⌝ }
     ensures { λ _. ⌜ now (free .exit) ≡ over (bytesOf 2 x) (now (free .entry)) ⌝ }
 {
+    let high = x / 256;
     put_u8(x, free);
-    put_u8(x / 256, &mut free[1..]);
+    put_u8(high, &mut free[1..]);
 }
 
 fn put_u32(x: u32, free: &mut [u8])
     requires { ⌜ 4 ≤ length (now free) ⌝ }
     ensures { λ _. ⌜ now (free .exit) ≡ over (bytesOf 4 x) (now (free .entry)) ⌝ }
 {
+    let high = x / 256 / 256;
     put_u16(x, free);
-    put_u16(x / 256 / 256, &mut free[2..]);
+    put_u16(high, &mut free[2..]);
 }
 
 // The words of a row.
