@@ -3,3 +3,5 @@ pub mod Walk
 pub mod Rows
 pub mod Latest
 pub mod ByTurn
+pub mod Judging
+pub mod Theorems
