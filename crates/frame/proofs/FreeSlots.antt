@@ -20,12 +20,11 @@ use Rattle.jobs.specs.Below.{total, count, some}
 use Rattle.jobs.specs.Table.{jobs, ready, run}
 use Rattle.jobs.specs.Refusals.{after, first, tableRefusals}
 use Rattle.jobs.specs.Orders.{theJob, byReady}
-use Rattle.jobs.specs.declared.Check.{Check}
-use Rattle.jobs.specs.declared.Check.the-variants.{Fine, Refused}
+use Rattle.jobs.specs.declared.Check.the-variants.{Fine}
 use Rattle.jobs.specs.declared.Job.{Job}
 use Rattle.jobs.specs.declared.Arrivals.{Arrivals}
 use Rattle.jobs.proofs.Below.{by-cases, below-suc, some-where, none-at, part-le-total, total-same, total-add, count-none, count-more}
-use Rattle.jobs.proofs.Refusals.{Good, first-append, after-fine}
+use Rattle.jobs.proofs.Refusals.{Good, first-append, after-fine, after-last}
 use Rattle.jobs.proofs.Orders.{job-by-ready}
 use Rattle.frame.specs.Schedule.{need, idle, noFaults, freeSlots}
 use Rattle.frame.specs.Asks.{tooLate, freeSlotsRefusals, freeSlotsAnswer}
@@ -251,10 +250,6 @@ free-slots-none table a b l = ap (λ d. count d (λ t. idle table (noFaults tabl
 -- The table's refusals come first, and then 9.
 pub free-slots-refusals : (table : List ℕ) (a b : ℕ) → first (freeSlotsRefusals table a b) ≡ after (first (tableRefusals table)) (tooLate a b)
 free-slots-refusals table a b = first-append (tableRefusals table) (tooLate a b ∷ []) ∙ ap (after (first (tableRefusals table))) (after-last (tooLate a b))
-  where
-    after-last : (c : Check) → after c Fine ≡ c
-    after-last Fine = refl
-    after-last (Refused number place) = refl
 
 pub free-slots-fine : (table : List ℕ) (a b : ℕ) → first (freeSlotsRefusals table a b) ≡ Fine → first (tableRefusals table) ≡ Fine
 free-slots-fine table a b e = after-fine (first (tableRefusals table)) (tooLate a b) (sym (free-slots-refusals table a b) ∙ e) .0

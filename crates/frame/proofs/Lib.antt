@@ -8,3 +8,8 @@ pub mod Patterns
 pub mod Verdicts
 pub mod Jumps
 pub mod FreeSlots
+pub mod Fill
+pub mod Bounds
+pub mod Sorted
+pub mod Walk
+pub mod Asks

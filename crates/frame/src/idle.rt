@@ -5,6 +5,7 @@ use jobs::Arrivals;
 use jobs::Check;
 use jobs::by_ready;
 use jobs::check_table;
+use jobs::first_of;
 use jobs::jobs;
 use jobs::ready;
 use jobs::run;
@@ -84,13 +85,7 @@ fn check_times(a: u32, b: u32) -> Check
 fn check_free_slots(table: &[u32], a: u32, b: u32) -> Check
     ensures { λ r. ⌜ r ≡ first (freeSlotsRefusals (now (table .entry)) a b) ⌝ }
 {
-    match check_table(table) {
-        Check::Fine => check_times(a, b),
-        Check::Refused { number, place } => Check::Refused {
-            number: number,
-            place: place,
-        },
-    }
+    first_of(check_table(table), check_times(a, b))
 }
 
 // Free slots between a and b, in the schedule without faults.

@@ -1,8 +1,11 @@
 // The schedule of a frame, and what is asked of it.
 use jobs::Job;
 
+mod events;
 mod idle;
 
+pub use events::check_room;
+pub use events::schedule;
 pub use idle::free_slots;
 
 // The verdict: sound, or miss with the job and its latest finish.

@@ -44,6 +44,10 @@ pub after-after : (a b c : Check) → after (after a b) c ≡ after a (after b c
 after-after Fine b c = refl
 after-after (Refused number place) b c = refl
 
+pub after-last : (a : Check) → after a Fine ≡ a
+after-last Fine = refl
+after-last (Refused number place) = refl
+
 pub first-append : (xs ys : List Check) → first (xs ++ ys) ≡ after (first xs) (first ys)
 first-append [] ys = refl
 first-append (x ∷ xs) ys = ap (after x) (first-append xs ys) ∙ sym (after-after x (first xs) (first ys))

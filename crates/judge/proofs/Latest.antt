@@ -19,21 +19,10 @@ use Rattle.frame.specs.Latest.{sum, AtMost, latest}
 use Rattle.frame.proofs.Queue.{ends, halts}
 use Rattle.frame.proofs.Work.{arrival, comesAt, turn, brings, arrivals, in-order-of-ready}
 use Rattle.frame.proofs.Finish.{atLeast, at-least-itself, urgentAt, runsEmpty, finish-law}
+use Rattle.frame.proofs.Bounds.{sum-total}
 use Rattle.frame.proofs.Patterns.{Reaches, latest-bounds, latest-reached}
 use Rattle.judge.proofs.Walk.{Walk, row, stop, best}
 use Rattle.judge.proofs.Rows.{brought, endsWith, haltsWith, ends-same, best-few, walk-bounds, walk-reached}
-
--- ---- sums of patterns
-
-total-front : (n : ℕ) (g : ℕ → ℕ) → total (suc n) g ≡ g 0 + total n (λ i. g (suc i))
-unfolding total
-total-front zero g = omega arith
-total-front (suc n) g = omega (arith, total-front n g)
-
-pub sum-is-total : (pattern : List ℕ) → sum pattern ≡ total (length pattern) (λ i. getD pattern i 0)
-unfolding sum total
-sum-is-total [] = refl
-sum-is-total (f ∷ rest) = omega (arith, sum-is-total rest, total-front (length rest) (λ i. getD (f ∷ rest) i 0))
 
 -- ---- the walk of a job
 
@@ -77,7 +66,7 @@ module _ (table : List ℕ) (k job : ℕ) (good : Good table) (isJob : job < job
       omega (
         arith,
         in-order-of-ready table (λ i. getD pattern i 0),
-        sum-is-total pattern,
+        sum-total pattern,
         ap (λ n. total n (λ i. getD pattern i 0)) (a .long),
         a .few,
       )
@@ -109,7 +98,7 @@ module _ (table : List ℕ) (k job : ℕ) (good : Good table) (isJob : job < job
           few =
               omega (
                 arith,
-                sum-is-total pattern,
+                sum-total pattern,
                 ap (λ n. total n (λ i. getD pattern i 0)) long,
                 in-order-of-ready table (λ i. getD pattern i 0),
                 total-same (jobs table) (inTurn pattern) unwound same-in-turn,

@@ -20,9 +20,9 @@ use Rattle.frame.specs.Latest.{sum, AtMost, latest, verdict}
 use Rattle.frame.specs.declared.Verdict.{Verdict}
 use Rattle.frame.specs.declared.Verdict.the-variants.{Sound, Miss}
 use Rattle.frame.proofs.Finish.{atLeast, workload, finish-bound}
+use Rattle.frame.proofs.Bounds.{sum-total}
 use Rattle.frame.proofs.Patterns.{Reaches, latest-bounds, latest-reached}
 use Rattle.frame.proofs.Verdicts.{sound-meets, meets-sound}
-use Rattle.judge.proofs.Latest.{sum-is-total}
 
 -- ---- demand 2
 
@@ -62,7 +62,7 @@ module _ (table : List ℕ) (job : ℕ) where
         total-le (jobs table) _ (λ i. cond (atLeast table job i) (run table i) 0 + getD pattern i 0 * longestRecovery) part,
         total-add (jobs table) (λ i. cond (atLeast table job i) (run table i) 0) (λ i. getD pattern i 0 * longestRecovery),
         total-times (jobs table) longestRecovery (λ i. getD pattern i 0),
-        ap (λ x. x * longestRecovery) (sum-is-total pattern ∙ ap (λ n. total n (λ i. getD pattern i 0)) long),
+        ap (λ x. x * longestRecovery) (sum-total pattern ∙ ap (λ n. total n (λ i. getD pattern i 0)) long),
       )
     where
       part : (i : ℕ) → i < jobs table → cond (atLeast table job i) (need table pattern i) 0 ≤ cond (atLeast table job i) (run table i) 0 + getD pattern i 0 * longestRecovery

@@ -31,6 +31,10 @@ unfoldable pub picks : ℕ → (ℕ → ℕ) → ℕ → ℕ
 picks v first zero = 0
 picks v first (suc w) = cond (leb (again v (spread v first w)) (first (suc w))) 0 (suc (picks v first w))
 
+-- The faults on a job of the walk; none on one that is less urgent than the judged job.
+abbrev pub picked : Bool → Bool → ℕ → ℕ → ℕ → (ℕ → ℕ) → ℕ → ℕ
+picked on past r c v before w = cond on (picks v (λ u. enters past r c (before u)) w) 0
+
 -- An array of `size` words, the first n of which hold these values.
 pub record Holds (size : ℕ) (array : List ℕ) (n : ℕ) (values : ℕ → ℕ) : Type 0 where
   pub long : length array ≡ size

@@ -2,3 +2,4 @@
 mod late;
 mod row;
 mod turns;
+mod trail;

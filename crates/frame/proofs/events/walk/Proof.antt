@@ -1,0 +1,92 @@
+-- `frame::events::walk` meets its contract. At each event what is left and what is written are the definition's (`Stands`); an event
+-- keeps that and is one of at most 2n + 1 (`turns`), and when no event is left every job's finish is written.
+-- Assumes nothing.
+use mathlib.Core.Path.{sym, ap}
+use Rattle.jobs.proofs.Refusals.{Good, good}
+use Rattle.frame.proofs.Walk.{Along, Stands, turns, stands-first, allowed, stands-next, turns-next, stands-last}
+use Rattle.frame.proofs.events.walk.Statement.{statement}
+use Rattle.frame.proofs.events.walk.Tie as tie
+
+abbrev Inv-loop : tie.InvT-loop
+Inv-loop table pattern finishes₀ sorted left₀ clock₀ finishes left clock = Stands table pattern finishes₀ clock left finishes
+
+abbrev μ-loop : tie.MeasureT-loop
+μ-loop table pattern finishes₀ sorted left₀ clock₀ finishes left clock = turns table clock left
+
+by-urgency-requires : tie.Need-by-urgency-requires Inv-loop μ-loop
+by-urgency-requires c κs = tt
+
+needs-requires : tie.Need-needs-requires Inv-loop μ-loop
+needs-requires c κs = c .before .before .before .before .before .pre .0
+
+loop-holds : tie.Need-loop-holds Inv-loop μ-loop
+loop-holds c =
+    let s = c .before .before .before .before .before .before in
+    rw (c .needs .ensures) (stands-first (s .args .table .now) (s .args .pattern .now) (s .args .finishes .now) (s .pre .0))
+
+next-ready-requires : tie.Need-next-ready-requires Inv-loop μ-loop
+next-ready-requires c κs = tt
+
+slice-aggregate-pick : tie.Need-slice-aggregate-pick Inv-loop μ-loop
+slice-aggregate-pick c = sym (c .before .before .before .loop .inv .along .all)
+
+pick-requires : tie.Need-pick-requires Inv-loop μ-loop
+pick-requires c κs =
+    let s = c .before .before .before .before .before .before .before .before .before .before in
+    (ap (λ r. r .job) (c .before .before .before .before .before .before .by-urgency .ensures), (good (s .args .table .now) (s .pre .0 .fine) .few-jobs, c .before .before .before .loop .inv .along .all))
+
+slice-aggregate-event : tie.Need-slice-aggregate-event Inv-loop μ-loop
+slice-aggregate-event c = sym (c .before .before .before .before .before .loop .inv .along .all)
+
+event-requires : tie.Need-event-requires Inv-loop μ-loop
+event-requires c κs =
+    let s = c .before .before .before .before .before .before .before .before .before .before .before .before .before in
+    let l = c .before .before .before .before .before .before .loop in
+    allowed (s .args .table .now) (s .args .pattern .now) (s .args .finishes .now) (s .pre .0) (s .pre .1) (l .clock) (l .left) (l .finishes) (l .inv)
+    (c .before .before .before .before .before .loop-test .taken) (c .before .before .pick .result) (c .before .before .pick .ensures)
+
+loop-less : tie.Need-loop-less Inv-loop μ-loop
+loop-less c =
+    let s = c .before .before .before .before .before .before .before .before .before .before .before .before .before .before .before .before .before in
+    let l = c .before .before .before .before .before .before .before .before .before .before .loop in
+    let e = c .before .before .before .event in
+    turns-next (s .args .table .now) (s .args .pattern .now) (s .args .finishes .now) (s .pre .0) (s .pre .1) (l .clock) (l .left) (l .finishes) (l .inv)
+    (c .before .before .before .before .before .before .before .before .before .loop-test .taken) (c .before .before .before .before .before .before .pick .result) (c .before .before .before .before .before .before .pick .ensures) (c .before .before .before .before .before .before .before .before .next-ready .result) (c .before .before .before .before .before .before .before .before .next-ready .ensures)
+    (e .result) (e .last .1 .1 .1 .0) (e .last .1 .1 .1 .1 .0) (e .ensures)
+
+loop-again : tie.Need-loop-again Inv-loop μ-loop
+loop-again c =
+    let s = c .before .before .before .before .before .before .before .before .before .before .before .before .before .before .before .before .before in
+    let l = c .before .before .before .before .before .before .before .before .before .before .loop in
+    let e = c .before .before .before .event in
+    stands-next (s .args .table .now) (s .args .pattern .now) (s .args .finishes .now) (s .pre .0) (s .pre .1) (l .clock) (l .left) (l .finishes) (l .inv)
+    (c .before .before .before .before .before .before .before .before .before .loop-test .taken) (c .before .before .before .before .before .before .pick .result) (c .before .before .before .before .before .before .pick .ensures) (c .before .before .before .before .before .before .before .before .next-ready .result) (c .before .before .before .before .before .before .before .before .next-ready .ensures)
+    (e .result) (e .last .1 .1 .1 .0) (e .last .1 .1 .1 .1 .0) (e .ensures)
+
+same-length : tie.Need-same-length Inv-loop μ-loop
+same-length c = c .before .loop .inv .along .long
+
+returns : tie.Need-returns Inv-loop μ-loop
+returns c =
+    let s = c .before .before .before .before .before .before .before .before in
+    let l = c .before .loop in
+    stands-last (s .args .table .now) (s .args .pattern .now) (s .args .finishes .now) (s .pre .0) (s .pre .1) (l .clock) (l .left) (l .finishes) (l .inv) (c .loop-test .left)
+
+pub walk-spec : {M : Type 1} → statement M
+walk-spec =
+    tie.close
+    (tie.spec
+    Inv-loop
+    μ-loop
+    by-urgency-requires
+    needs-requires
+    loop-holds
+    next-ready-requires
+    slice-aggregate-pick
+    pick-requires
+    slice-aggregate-event
+    event-requires
+    loop-less
+    loop-again
+    same-length
+    returns)

@@ -1,0 +1,67 @@
+// The pattern that reaches a job's latest finish: the walk once more, noting how many faults each entry of the row has on the job, and the
+// notes unwound from where it stops.
+use crate::row::entered;
+use crate::row::once_more;
+use crate::row::spread;
+use crate::turns::ends_before;
+use crate::turns::turned;
+use jobs::Arrivals;
+ghost use mathlib.Core.Path.{_≡_};
+ghost use mathlib.Core.Bool.{cond};
+ghost use Prim.Native.Nat.{suc, _<_, _≤_};
+ghost use lib.Dec.{leb};
+ghost use Rattle.jobs.specs.Table.{jobs};
+ghost use Rattle.jobs.specs.Orders.{byReady};
+ghost use Rattle.judge.specs.Rows.{enters, spread, picks, turned, Holds, Fit, values, picked};
+ghost use Rattle.judge.specs.Turns.{Turns};
+
+// For each count of faults, how many of them are on the job.
+pub(crate) struct Picks {
+    pub of: [u8; 9],
+}
+
+// The notes of each turn, and where the walk stops.
+pub(crate) struct Trail {
+    pub picks: [Picks; 64],
+    pub stop: usize,
+}
+
+// None where an entry is no better with a fault more, else one more than with one fault less.
+fn pick(with: u32, without: u32, fewer: u8) -> u8
+    requires { ⌜ fewer < 255 ⌝ }
+    ensures { λ r. ⌜ r ≡ cond (leb with without) 0 (suc fewer) ⌝ }
+{
+    if with <= without {
+        return 0;
+    }
+    fewer + 1
+}
+
+// How the faults of each entry are picked that `spread` makes of `first`.
+fn picks_of(first: [u32; 9], next: [u32; 9], recovery: u32) -> [u8; 9]
+    requires { ⌜ Fit (spread recovery (values first)) ⌝ }
+    requires { ⌜ Holds 9 next 9 (spread recovery (values first)) ⌝ }
+    ensures { λ r. ⌜ Holds 9 r 9 (picks recovery (values first)) ⌝ }
+{
+    let mut of = [0u8; 9];
+    let mut w = 1;
+    while w < 9 {
+        of[w] = pick(once_more(recovery, next[w - 1]), first[w], of[w - 1]);
+        w += 1;
+    }
+    of
+}
+
+// The faults on a job of the walk; none where it is less urgent than the judged job.
+fn picked(row: [u32; 9], on: bool, past: bool, ready: u32, run: u32, recovery: u32) -> Picks
+    requires { ⌜ Holds 9 row 9 (values row) ⌝ }
+    requires { ⌜ Fit (turned on past ready run recovery (values row)) ⌝ }
+    ensures { λ r. ⌜ Holds 9 (r .of) 9 (picked on past ready run recovery (values row)) ⌝ }
+{
+    if on {
+        let first = entered(row, past, ready, run);
+        let next = spread(first, recovery);
+        return Picks { of: picks_of(first, next, recovery) };
+    }
+    Picks { of: [0; 9] }
+}
