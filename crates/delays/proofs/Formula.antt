@@ -15,6 +15,7 @@ use Rattle.jobs.proofs.Orders.{Rearranges}
 use Rattle.jobs.proofs.Refusals.{Good}
 use Rattle.frame.specs.Latest.{sum, AtMost, overPatterns}
 use Rattle.frame.specs.Delays.{faultFree, extra, mostExtra, delay}
+use Rattle.frame.proofs.Bounds.{sum-total}
 use Rattle.frame.proofs.Patterns.{Reaches, patterns-bound, patterns-reach}
 use Rattle.delays.specs.Places.{placeOf, jobAtPlace, freeAt, recoveryAt, delayRow}
 use Rattle.delays.proofs.Rows.{leaves, leaves-same, rows-bound, Leaves, rows-reached}
@@ -22,16 +23,6 @@ use Rattle.delays.proofs.Places.{places}
 use Rattle.delays.proofs.Extra.{faultsAt, extra-at-finish}
 
 -- ---- sums
-
-total-front : (n : ℕ) (g : ℕ → ℕ) → total (suc n) g ≡ g 0 + total n (λ i. g (suc i))
-unfolding total
-total-front zero g = omega arith
-total-front (suc n) g = omega (arith, total-front n g)
-
-sum-is-total : (pattern : List ℕ) → sum pattern ≡ total (length pattern) (λ i. getD pattern i 0)
-unfolding sum total
-sum-is-total [] = refl
-sum-is-total (f ∷ rest) = omega (arith, sum-is-total rest, total-front (length rest) (λ i. getD (f ∷ rest) i 0))
 
 -- the parts from p on add nothing
 total-rest : (g : ℕ → ℕ) (p d : ℕ) → ((q : ℕ) → p ≤ q → g q ≡ 0) → total (p + d) g ≡ total p g
@@ -60,7 +51,7 @@ module _ (table : List ℕ) (k job : ℕ) (good : Good table) (isJob : job < job
 
   sum-by-place : (pattern : List ℕ) → length pattern ≡ jobs table → sum pattern ≡ total (jobs table) (faultsAt table pattern)
   sum-by-place pattern long =
-      sum-is-total pattern ∙ ap (λ n. total n (λ i. getD pattern i 0)) long ∙ sym (by-place (λ i. getD pattern i 0))
+      sum-total pattern ∙ ap (λ n. total n (λ i. getD pattern i 0)) long ∙ sym (by-place (λ i. getD pattern i 0))
 
   -- No pattern of at most k faults leaves more.
   delay-at-most : delay table k job ≤ delayRow table upTo k

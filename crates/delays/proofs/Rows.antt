@@ -9,15 +9,25 @@ use native.Mathlib.Nat.{add-zero, add-suc, suc-mul, add-sub-of-le}
 use native.Mathlib.Omega.{arith}
 use mathlib.Core.Path.{_≡_, refl, sym, ap, _∙_}
 use mathlib.Core.Bool.{true, false, cond}
+use lib.ListN.{getD, replicate}
 use lib.Dec.{leb, eqb}
 use borrow.Author.Tests.{leb-true, leb-false, eq-eqb, ne-eqb}
 use Rattle.jobs.specs.Below.{total}
 use Rattle.jobs.proofs.Below.{by-cases, total-same}
-use Rattle.delays.specs.Rows.{nextRow, rows}
+use Rattle.delays.specs.Rows.{nextRow, rows, Holds}
 
 -- ---- one step
 
 module _ (free v : ℕ) (last : ℕ → ℕ) where
+  -- the cell for no faults
+  pub next-start : Holds 9 (replicate 9 0) 1 (nextRow free v last)
+  unfolding nextRow
+  next-start = record { long = refl; each = λ i l. only i l }
+    where
+      only : (i : ℕ) → i < 1 → getD (replicate 9 0) i 0 ≡ nextRow free v last i
+      only zero l = refl
+      only (suc i) l = absurd (omega arith)
+
   -- the cell at w from the one before it
   pub next-at : (w : ℕ) → 0 < w → nextRow free v last w ≡ max (last w - free) (nextRow free v last (w - 1) + v)
   unfolding nextRow

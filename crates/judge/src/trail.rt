@@ -61,7 +61,9 @@ fn picked(row: [u32; 9], on: bool, past: bool, ready: u32, run: u32, recovery: u
     if on {
         let first = entered(row, past, ready, run);
         let next = spread(first, recovery);
-        return Picks { of: picks_of(first, next, recovery) };
+        return Picks {
+            of: picks_of(first, next, recovery),
+        };
     }
     Picks { of: [0; 9] }
 }
