@@ -10,5 +10,6 @@ pub mod Jumps
 pub mod Fill
 pub mod Bounds
 pub mod Sorted
+pub mod NextReady
 pub mod Walk
 pub mod Asks
