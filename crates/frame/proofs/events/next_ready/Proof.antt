@@ -3,10 +3,9 @@
 use Prim.Native.Nat.{_≤_, _<_, _-_}
 use mathlib.Core.Path.{_≡_, ap, _∙_}
 use native.Mathlib.Omega.{arith}
-use lib.ListN.{length}
 use Rattle.jobs.specs.Table.{jobs}
 use Rattle.frame.specs.Events.{sooner, nextReady}
-use Rattle.frame.proofs.Walk.{times-long, time-of, next-none, next-more}
+use Rattle.frame.proofs.NextReady.{times-long, time-of, next-none, next-more}
 use Rattle.frame.proofs.events.next_ready.Statement.{statement}
 use Rattle.frame.proofs.events.next_ready.Tie as tie
 

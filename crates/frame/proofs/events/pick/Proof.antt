@@ -10,7 +10,7 @@ use Rattle.jobs.specs.Table.{jobs}
 use Rattle.jobs.specs.Orders.{theJob}
 use Rattle.frame.specs.Events.{stillWaits}
 use Rattle.frame.proofs.Sorted.{jobOf, NoneBelow, job-of-below, first-is-foremost, none-has}
-use Rattle.frame.proofs.Walk.{times-long, waits-by-times}
+use Rattle.frame.proofs.NextReady.{times-long, waits-by-times}
 use Rattle.frame.proofs.events.pick.Statement.{statement}
 use Rattle.frame.proofs.events.pick.Tie as tie
 
@@ -40,7 +40,9 @@ array-copy-out-job : tie.Need-array-copy-out-job Inv-loop μ-loop
 array-copy-out-job c = in-array c
 
 -- the job at the rank is one of the table's
-is-job : (c : tie.After-job Inv-loop μ-loop) → getD (c .before .before .before .before .before .before .before .args .t2) (c .before .before .loop .rank) (theJob 0) .0 < jobs (c .before .before .before .before .before .before .before .args .table .now)
+is-job : (c : tie.After-job Inv-loop μ-loop)
+    → let s = c .before .before .before .before .before .before .before .args in
+    getD (s .t2) (c .before .before .loop .rank) (theJob 0) .0 < jobs (s .table .now)
 is-job c =
     let s = c .before .before .before .before .before .before .before in
     rw (s .pre .1 .0) (job-of-below (s .args .table .now) (s .pre .0 .few) (c .before .before .loop .rank) (is-rank (c .before)))
@@ -64,19 +66,22 @@ waits-requires c κs = tt
 
 -- whether the job at this rank waits
 answered : (c : tie.After-waits Inv-loop μ-loop)
-    → c .waits .result ≡ stillWaits (c .before .before .before .before .before .before .before .before .before .before .args .table .now) (c .before .before .before .before .before .before .before .before .before .before .args .left .now) (c .before .before .before .before .before .before .before .before .before .before .args .time) (jobOf (c .before .before .before .before .before .before .before .before .before .before .args .table .now) (c .before .before .before .before .before .loop .rank))
+    → let s = c .before .before .before .before .before .before .before .before .before .before .args in
+    c .waits .result ≡ stillWaits (s .table .now) (s .left .now) (s .time) (jobOf (s .table .now) (c .before .before .before .before .before .loop .rank))
 answered c =
     let s = c .before .before .before .before .before .before .before .before .before .before in
+    let t = s .args .table .now in
     rw (s .pre .1 .0) at
-    (c .waits .ensures ∙ waits-by-times (s .args .table .now) (s .args .times .now) (s .pre .0) (s .args .left .now) (s .args .time) _ (is-job (c .before .before .before)))
+    (c .waits .ensures ∙ waits-by-times t (s .args .times .now) (s .pre .0) (s .args .left .now) (s .args .time) _ (is-job (c .before .before .before)))
 
 returns : tie.Need-returns Inv-loop μ-loop
 returns c =
     let s = c .before .before .before .before .before .before .before .before .before .before .before in
+    let t = s .args .table .now in
     let l = c .before .before .before .before .before .before .loop in
+    let p = stillWaits t (s .args .left .now) (s .args .time) in
     rw (s .pre .1 .0)
-    (first-is-foremost (s .args .table .now) (s .pre .0 .few) (stillWaits (s .args .table .now) (s .args .left .now) (s .args .time)) (l .rank) (is-rank (c .before .before .before .before .before)) (l .inv .1)
-    (sym (answered (c .before)) ∙ c .if1 .taken))
+    (first-is-foremost t (s .pre .0 .few) p (l .rank) (is-rank (c .before .before .before .before .before)) (l .inv .1) (sym (answered (c .before)) ∙ c .if1 .taken))
 
 add-rank : tie.Need-add-rank Inv-loop μ-loop
 add-rank c = omega (arith, in-array (c .before .before .before .before .before))
@@ -85,8 +90,10 @@ loop-less : tie.Need-loop-less Inv-loop μ-loop
 loop-less c = omega (arith, c .before .before .before .before .before .loop-test .taken)
 
 loop-again : tie.Need-loop-again Inv-loop μ-loop
-loop-again c =
-    (omega (arith, c .before .before .before .before .before .loop-test .taken), below-more _ _ (c .before .before .before .before .before .before .loop .inv .1) (sym (answered (c .before)) ∙ c .if1 .left))
+loop-again c = (
+  omega (arith, c .before .before .before .before .before .loop-test .taken),
+  below-more _ _ (c .before .before .before .before .before .before .loop .inv .1) (sym (answered (c .before)) ∙ c .if1 .left),
+)
 
 returns-2 : tie.Need-returns-2 Inv-loop μ-loop
 returns-2 c =

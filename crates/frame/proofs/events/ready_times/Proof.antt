@@ -4,7 +4,7 @@ use Prim.Native.Nat.{_≤_, _<_, _-_}
 use mathlib.Core.Path.{_≡_, refl}
 use native.Mathlib.Omega.{arith}
 use Rattle.jobs.specs.Table.{jobs, ready}
-use Rattle.jobs.proofs.Orders.{Placed, placed-none, placed-more, placed-all}
+use Rattle.jobs.proofs.Placed.{Placed, placed-none, placed-more, placed-all}
 use Rattle.frame.proofs.events.ready_times.Statement.{statement}
 use Rattle.frame.proofs.events.ready_times.Tie as tie
 
