@@ -20,6 +20,7 @@ use Rattle.jobfile.specs.declared.Contents.the-variants.{Jobs, Refused}
 abbrev pub lengthOf : List ℕ → ℕ
 lengthOf left = numberAt 2 0 left
 
+-- The kind stands after the length.
 abbrev pub kindOf : List ℕ → ℕ
 kindOf left = numberAt 2 2 left
 
@@ -88,12 +89,13 @@ walk (b ∷ left) zero at n k =
       | Bad number place ↦ refused number place
     ]
 
--- Whether a file has a head.
+-- Whether a record is a head.
 abbrev pub isHead : Record → Bool
 isHead (Head faults) = true
 isHead Job = false
 isHead (Bad number place) = false
 
+-- Whether a file has a head: at most one, first.
 abbrev pub headed : List ℕ → Bool
 headed file = isHead (recordAt file 0 0)
 
@@ -101,6 +103,7 @@ headed file = isHead (recordAt file 0 0)
 abbrev pub headlessK : ℕ
 headlessK = 1
 
+-- The meaning of a file: the walk from its start, with no job before it.
 unfoldable pub meaning : List ℕ → Meaning
 meaning file = walk file 0 0 0 headlessK
 

@@ -4,11 +4,11 @@ use jobs::MOST_FAULTS;
 use jobs::MOST_JOBS;
 use jobs::ROW;
 ghost use mathlib.Core.Path.{_≡_};
+ghost use mathlib.Core.Bool.{cond};
 ghost use Prim.Native.Nat.{_+_, _≤_, _<_};
 ghost use lib.ListN.{length, getD, drop};
-ghost use Rattle.jobfile.specs.Bytes.{numberAt, over};
-ghost use mathlib.Core.Bool.{cond};
 ghost use Rattle.jobs.specs.Table.{rowWords};
+ghost use Rattle.jobfile.specs.Bytes.{numberAt, over};
 ghost use Rattle.jobfile.specs.Meaning.{lengthOf, rowOf, strays, headAt, jobAt, recordAt, headed, meaning, answered, filled, Good, ReadsTo};
 
 // The k of a file without a head.
@@ -38,6 +38,7 @@ pub enum Contents {
     Refused { number: u32, place: usize },
 }
 
+// The byte at an offset, as a number.
 fn byte_at(bytes: &[u8], at: usize) -> u32
     requires { ⌜ at < length (now bytes) ⌝ }
     ensures { λ r. ⌜ (r ≡ getD (now (bytes .entry)) at 0) × (r < 256) ⌝ }

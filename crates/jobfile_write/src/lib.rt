@@ -18,6 +18,7 @@ pub enum Written {
     Refused { number: u32, place: usize },
 }
 
+// The low byte of a number, over the first free byte.
 fn put_u8(x: u32, free: &mut [u8])
     requires { ⌜ 1 ≤ length (now free) ⌝ }
     ensures { λ _. ⌜ now (free .exit) ≡ over (bytesOf 1 x) (now (free .entry)) ⌝ }
@@ -25,6 +26,7 @@ fn put_u8(x: u32, free: &mut [u8])
     free[0] = (x % 256) as u8;
 }
 
+// A 16-bit number: its low byte first, and the rest of the free bytes is lent on for the other.
 fn put_u16(x: u32, free: &mut [u8])
     requires { ⌜ 2 ≤ length (now free) ⌝ }
     ensures { λ _. ⌜ now (free .exit) ≡ over (bytesOf 2 x) (now (free .entry)) ⌝ }
@@ -34,6 +36,7 @@ fn put_u16(x: u32, free: &mut [u8])
     put_u8(high, &mut free[1..]);
 }
 
+// A 32-bit number, low half first.
 fn put_u32(x: u32, free: &mut [u8])
     requires { ⌜ 4 ≤ length (now free) ⌝ }
     ensures { λ _. ⌜ now (free .exit) ≡ over (bytesOf 4 x) (now (free .entry)) ⌝ }

@@ -41,7 +41,7 @@ returns c =
     (room-last (a .table .now) (a .k) (a .room)
     (sym (c .before .before .before .before .before .before .before .check-table .ensures) ∙ c .before .before .before .before .before .enum-told .given .1)
     (sym (c .before .before .before .before .check-faults .ensures) ∙ c .before .before .enum-told2 .given .1)
-    _ (omega (arith, fileOf-length (a .table .now) (a .k), c .before .jobs .ensures)) (c .if1 .taken))
+    _ (omega (arith, fileOf-length (a .table .now) (a .k), c .before .jobs .ensures)) (omega arith))
 
 returns-2 : tie.Need-returns-2
 returns-2 c =
