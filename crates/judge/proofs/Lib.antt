@@ -6,3 +6,4 @@ pub mod Unwinding
 pub mod Judging
 pub mod Theorems
 pub mod Answers
+pub mod Margins

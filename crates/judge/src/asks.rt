@@ -14,7 +14,8 @@ use jobs::first_of;
 ghost use mathlib.Core.Path.{_≡_};
 ghost use Prim.Native.Nat.{_<_, _≤_};
 ghost use lib.ListN.{length};
-ghost use Rattle.jobs.specs.Table.{jobs};
+ghost use lib.IntN.{subℕ};
+ghost use Rattle.jobs.specs.Table.{jobs, deadline};
 ghost use Rattle.jobs.specs.Refusals.{first, tableRefusals};
 ghost use Rattle.jobs.specs.Orders.{byReady};
 ghost use Rattle.jobs.specs.declared.Check.the-variants.{Fine};
@@ -228,4 +229,11 @@ pub fn pattern_of(table: &[u32], k: u32, job: u32, pattern: &mut [u32]) -> Check
             place: place,
         },
     }
+}
+
+// A job's margin: its deadline minus its latest finish, signed.
+pub fn margin(table: &[u32], job: Job, finish: u32) -> i64
+    ensures { λ r. ⌜ r ≡ subℕ (deadline (now (table .entry)) (job .0)) finish ⌝ }
+{
+    jobs::deadline(table, job) as i64 - finish as i64
 }

@@ -8,6 +8,7 @@ mod trail;
 mod turns;
 
 pub use asks::judge;
+pub use asks::margin;
 pub use asks::pattern_of;
 
 // What the judge answers: the verdict, or the refusal.
