@@ -6,7 +6,7 @@ use Prim.Native.Nat.{ℕ, zero, suc, _≤_, _<_}
 use native.Mathlib.Omega.{arith}
 use mathlib.Core.Path.{_≡_, refl, sym, ap, _∙_}
 use mathlib.Core.List.{List, [], _∷_, _++_}
-use lib.ListN.{length, getD, drop, replicate}
+use lib.ListN.{length, getD, drop}
 use borrow.Author.Tests.{ltb-true, ltb-false, not-false}
 use Rattle.jobs.specs.Below.{listed}
 use Rattle.jobs.specs.Table.{jobs}
@@ -16,16 +16,14 @@ use Rattle.jobs.specs.declared.Check.{Check}
 use Rattle.jobs.specs.declared.Check.the-variants.{Fine, Refused}
 use Rattle.jobs.proofs.Below.{length-listed, getD-listed}
 use Rattle.jobs.proofs.Refusals.{good, not-given, after-fine, after-last, first-append}
-use Rattle.frame.specs.Schedule.{finish}
 use Rattle.frame.specs.Latest.{latest, verdict}
 use Rattle.frame.specs.Asks.{shortBuffer, fill}
 use Rattle.frame.specs.declared.Verdict.{Verdict}
 use Rattle.frame.specs.declared.Verdict.the-variants.{Sound, Miss}
-use Rattle.frame.proofs.Foremost.{Foremost}
 use Rattle.frame.proofs.Verdicts.{miss-names}
 use Rattle.judge.specs.Rows.{values}
 use Rattle.judge.specs.Walk.{Unwound, CountsFor}
-use Rattle.judge.specs.Asks.{shortPattern, noSuchJob, judgeRefusals, patternRefusals, Handed, HandedFor, judged, Judging, Reaching}
+use Rattle.judge.specs.Asks.{shortPattern, noSuchJob, judgeRefusals, patternRefusals, Handed, HandedFor, Judging, Reaching}
 use Rattle.judge.specs.declared.Judged.{Judged}
 use Rattle.judge.specs.declared.Judged.the-variants.{With}
 use Rattle.judge.proofs.Latest.{handed-reaches}

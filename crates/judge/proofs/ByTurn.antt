@@ -1,32 +1,31 @@
 -- The walk over a good table's jobs by turn, as the code does it: what its arrays and its row of nine cells hold, that the cells fit, and
 -- that the last of them is the latest finish. Assumes nothing.
-use Prim.Native.Nat.{ℕ, zero, suc, _+_, _*_, _≤_, _<_, _^_, max, zero-le}
-use native.Mathlib.Nat.{suc-mul}
+use Prim.Native.Nat.{ℕ, zero, suc, _+_, _*_, _≤_, _<_, zero-le}
 use native.Mathlib.Numerals.{add-one}
 use native.Mathlib.Omega.{arith}
-use mathlib.Core.Path.{_≡_, refl, sym, ap, _∙_, subst}
-use mathlib.Core.Bool.{Bool, true, false, not, cond, _&&_, true≢false}
+use mathlib.Core.Path.{_≡_, sym, ap, _∙_, subst}
+use mathlib.Core.Bool.{true, false, not, cond, _&&_}
 use mathlib.Core.List.{List}
 use lib.ListN.{length, getD, set, length-set}
 use lib.Seq.{getD-set-same, getD-set-other}
 use lib.Dec.{leb, ltb, eqb}
 use borrow.Author.Tests.{le-leb, lt-leb, eqb-true, eqb-false}
 use borrow.Author.Count.{below-none, below-more}
-use Rattle.jobs.specs.Table.{jobs, ready, run, recovery}
-use Rattle.jobs.specs.Urgency.{urgent, position}
+use Rattle.jobs.specs.Table.{jobs, ready, recovery}
+use Rattle.jobs.specs.Urgency.{urgent}
 use Rattle.jobs.specs.Orders.{theJob, theRank, byUrgency, byReady}
 use Rattle.jobs.specs.declared.Job.{Job}
 use Rattle.jobs.specs.declared.Rank.{Rank}
 use Rattle.jobs.specs.declared.Ranking.{Ranking}
 use Rattle.jobs.specs.declared.Arrivals.{Arrivals}
 use Rattle.jobs.proofs.Below.{by-cases, below-suc, least-is, least-none}
-use Rattle.jobs.proofs.Urgency.{StrictOrder, urgency-order}
-use Rattle.jobs.proofs.Orders.{Rearranges, position-below, position-rises, job-by-ready, rank-of-job}
+use Rattle.jobs.proofs.Urgency.{urgency-order}
+use Rattle.jobs.proofs.Orders.{position-below, position-rises, job-by-ready, rank-of-job}
 use Rattle.jobs.proofs.Refusals.{Good, good}
 use Rattle.frame.specs.Latest.{latest}
 use Rattle.frame.proofs.Work.{arrival, arrivals}
-use Rattle.frame.proofs.Finish.{atLeast, urgentAt}
-use Rattle.judge.specs.Rows.{enters, spread, turned, picks, picked, Holds, Fit, values}
+use Rattle.frame.proofs.Finish.{atLeast}
+use Rattle.judge.specs.Rows.{enters, turned, picks, picked, Holds, Fit, values}
 use Rattle.judge.specs.Turns.{jobAtTurn, rankOf, Turns}
 use Rattle.judge.proofs.Arrays.{holds-same}
 use Rattle.judge.specs.Walk.{Walk, entered, row, stops, stop, faultsAt, walkOf}

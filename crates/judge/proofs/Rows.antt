@@ -59,6 +59,10 @@ module _ (v : ℕ) (first : ℕ → ℕ) where
   spread-at zero l = absurd (omega arith)
   spread-at (suc w) l = ap (λ u. max (first (suc w)) (again v (spread v first u))) (one-less w)
 
+  -- one fault more on the cell before is within the cell at w
+  pub spread-again : (w : ℕ) {limit : ℕ} → 0 < w → spread v first w < limit → again v (spread v first (w - 1)) < limit
+  spread-again w l h = omega (arith, spread-at w l)
+
   spread-grows : (w : ℕ) → spread v first w ≤ spread v first (suc w)
   unfolding spread
   spread-grows w = omega (arith, again-grows v (spread v first w))
@@ -87,6 +91,9 @@ module _ (v : ℕ) (first : ℕ → ℕ) where
       by-cases (leb (again v (spread v first w)) (first (suc w)))
       (λ e. rw e (omega arith))
       (λ e. rw e (omega (arith, picks-within w)))
+
+  pub picks-small : (w : ℕ) → w < 9 → picks v first w < 255
+  picks-small w l = omega (arith, picks-within w)
 
   -- an entry comes from one with as many fewer faults as this job has
   spread-picks : (w : ℕ) → spread v first w ≡ first (w - picks v first w) + picks v first w * v

@@ -6,9 +6,9 @@
 use Prim.Native.Nat.{ℕ, zero, suc, _+_, _*_, _≤_, _<_, zero-le}
 use native.Mathlib.Nat.{le-trans, mul-le-mul-left, mul-le-mul-right, add-mul}
 use native.Mathlib.Omega.{arith}
-use mathlib.Core.Path.{_≡_, refl, sym, ap, _∙_}
+use mathlib.Core.Path.{_≡_, ap, _∙_}
 use mathlib.Core.Logic.{_↔_}
-use mathlib.Core.Bool.{Bool, true, false, cond}
+use mathlib.Core.Bool.{cond}
 use mathlib.Core.List.{List}
 use lib.ListN.{length, getD}
 use borrow.Author.Tests.{ltb-true}
@@ -19,8 +19,7 @@ use Rattle.jobs.proofs.Below.{by-cases, total-le, total-add, greatest-bounds}
 use Rattle.jobs.proofs.Refusals.{Good}
 use Rattle.frame.specs.Schedule.{need, finish}
 use Rattle.frame.specs.Latest.{sum, AtMost, latest, verdict}
-use Rattle.frame.specs.declared.Verdict.{Verdict}
-use Rattle.frame.specs.declared.Verdict.the-variants.{Sound, Miss}
+use Rattle.frame.specs.declared.Verdict.the-variants.{Sound}
 use Rattle.frame.proofs.Finish.{atLeast, workload, finish-bound}
 use Rattle.frame.proofs.Bounds.{sum-total}
 use Rattle.frame.proofs.Patterns.{Reaches, latest-bounds, latest-reached}

@@ -1,17 +1,16 @@
 -- Unwinding the notes of a walk from where it stops: the counts of the turns that are passed are in place, and those of the turns before
 -- are what the walk has left to unwind. Assumes nothing.
-use Prim.Native.Nat.{ℕ, zero, suc, _-_, _≤_, _<_, zero-le}
+use Prim.Native.Nat.{ℕ, zero, suc, _-_, _≤_, _<_}
 use native.Mathlib.Omega.{arith}
-use mathlib.Core.Path.{_≡_, refl, sym, ap, _∙_, subst}
-use mathlib.Core.Bool.{Bool, true, false, cond}
+use mathlib.Core.Path.{_≡_, refl, sym, ap, _∙_}
+use mathlib.Core.Bool.{cond}
 use mathlib.Core.List.{List}
 use lib.ListN.{length, getD, set, replicate, length-set, length-replicate, getD-replicate, List·getD-eq-default}
 use lib.Seq.{getD-set-same, getD-set-other}
 use lib.Dec.{ltb, eqb}
-use borrow.Author.Tests.{ltb-true, ltb-false, lt-ltb, le-ltb, eqb-true, eqb-false, eq-eqb, ne-eqb}
+use borrow.Author.Tests.{ltb-true, ltb-false, lt-ltb, le-ltb, eqb-true, eqb-false, ne-eqb}
 use Rattle.jobs.specs.Table.{jobs}
 use Rattle.jobs.proofs.Below.{by-cases, least-le}
-use Rattle.jobs.proofs.Orders.{Rearranges}
 use Rattle.frame.proofs.Work.{arrivals, turn}
 use Rattle.judge.specs.Turns.{jobAtTurn}
 use Rattle.judge.specs.Walk.{Walk, stops, stop, faultsAt, unwind, best, walkOf, TrailOf, Unwound}
@@ -59,6 +58,10 @@ module _ (table : List ℕ) (k job : ℕ) where
   stop-within = least-le (jobs table) (stops W k)
 
   -- the note at a turn that is still to unwind
+  -- the turn that is unwound next
+  pub turn-before : (n p w : ℕ) (counts : List ℕ) → n ≡ jobs table → 0 < p → Unwinding p w counts → p - 1 < n
+  turn-before n p w counts e l h = omega (arith, h .turns)
+
   pub note-is : (trail : Trail) (p w : ℕ) (d : Picks) (counts : List ℕ) → TrailOf table k job trail → 0 < p → w < 9 → Unwinding p w counts
       → getD (getD (trail .picks) (p - 1) d .of) w 0 ≡ faultsAt W (p - 1) w
   note-is trail p w d counts t l m h = t .notes (p - 1) d (omega (arith, t .stops-at, h .begun)) .each w m

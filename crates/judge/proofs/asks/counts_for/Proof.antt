@@ -1,6 +1,6 @@
 -- `judge::asks::counts_for` meets its contract by the verdict's two cases; the named job of a miss is a job of the table. Assumes nothing.
-use native.Mathlib.Omega.{arith}
-use mathlib.Core.Path.{refl}
+use native.Mathlib.Nat.{lt-of-lt-of-le, le-of-eq}
+use mathlib.Core.Path.{refl, sym}
 use Rattle.judge.proofs.Answers.{named-below}
 use Rattle.judge.proofs.asks.counts_for.Statement.{statement}
 use Rattle.judge.proofs.asks.counts_for.Tie as tie
@@ -17,7 +17,7 @@ counts-of-requires c κs =
     let a = start .args in
     let turns = start .pre .1 .0 in
     let named = named-below (a .table .now) (a .k) (a .verdict) _ _ (start .pre .1 .1 .1) (c .before .verdict .given .1) in
-    (start .pre .0, (turns, (start .pre .1 .1 .0, omega (arith, turns .all, named))))
+    (start .pre .0, (turns, (start .pre .1 .1 .0, lt-of-lt-of-le named (le-of-eq (sym (turns .all))))))
 
 returns : tie.Need-returns
 returns c = rw (c .enum-told .given .1) refl

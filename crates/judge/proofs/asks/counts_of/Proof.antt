@@ -1,16 +1,15 @@
 -- `judge::asks::counts_of` meets its contract: the walk from the job's own turn is noted and unwound. Assumes nothing.
-use borrow.Author.Needs.{needs}
 use Rattle.judge.proofs.asks.counts_of.Statement.{statement}
 use Rattle.judge.proofs.asks.counts_of.Tie as tie
 
 turn-of-requires : tie.Need-turn-of-requires
-turn-of-requires c κs = search needs
+turn-of-requires c κs = let start = c .before in (start .pre .0, (start .pre .1 .0 .all, start .pre .1 .0 .few, start .pre .1 .1 .1))
 
 trail-of-requires : tie.Need-trail-of-requires
-trail-of-requires c κs = search needs
+trail-of-requires c κs = let start = c .before .before in (start .pre .1 .0, (start .pre .1 .1 .0, c .turn-of .ensures .0))
 
 unwound-requires : tie.Need-unwound-requires
-unwound-requires c κs = search needs
+unwound-requires c κs = let start = c .before .before .before in (start .pre .0, (c .trail-of .ensures, (start .pre .1 .0 .all, start .pre .1 .0 .few, start .pre .1 .1 .0)))
 
 returns : tie.Need-returns
 returns c =

@@ -1,7 +1,7 @@
 -- `judge::asks::hand_out` meets its contract: the counts unwound for the job reach its latest finish, and fill the buffer. Assumes nothing.
-use native.Mathlib.Omega.{arith}
+use native.Mathlib.Nat.{lt-of-lt-of-le, le-trans, le-of-eq}
 use Prim.Native.Nat.{ℕ}
-use mathlib.Core.Path.{_∙_, ap}
+use mathlib.Core.Path.{_∙_, ap, sym}
 use Rattle.jobs.proofs.Refusals.{good}
 use Rattle.frame.specs.Asks.{fill}
 use Rattle.judge.specs.Rows.{values}
@@ -22,25 +22,25 @@ in-turn-requires : tie.Need-in-turn-requires
 in-turn-requires c κs =
     let start = c .before .before .before .before .before in
     let a = start .args in
-    (c .before .by-ready .ensures, (c .before .before .jobs .ensures, omega (arith, c .before .before .jobs .ensures, good (a .table .now) (start .pre .0) .few-jobs)))
+    (c .before .by-ready .ensures, (c .before .before .jobs .ensures, le-trans (le-of-eq (c .before .before .jobs .ensures)) (good (a .table .now) (start .pre .0) .few-jobs)))
 
 in-turn-requires-2 : tie.Need-in-turn-requires-2
 in-turn-requires-2 c κs =
     let start = c .before .before .before .before .before .before in
     let a = start .args in
-    (c .before .before .by-ready .ensures, (c .before .before .before .jobs .ensures, omega (arith, c .before .before .before .jobs .ensures, good (a .table .now) (start .pre .0) .few-jobs)))
+    (c .before .before .by-ready .ensures, (c .before .before .before .jobs .ensures, le-trans (le-of-eq (c .before .before .before .jobs .ensures)) (good (a .table .now) (start .pre .0) .few-jobs)))
 
 in-turn-requires-3 : tie.Need-in-turn-requires-3
 in-turn-requires-3 c κs =
     let start = c .before .before .before .before .before .before .before in
     let a = start .args in
-    (c .before .before .before .by-ready .ensures, (c .before .before .before .before .jobs .ensures, omega (arith, c .before .before .before .before .jobs .ensures, good (a .table .now) (start .pre .0) .few-jobs)))
+    (c .before .before .before .by-ready .ensures, (c .before .before .before .before .jobs .ensures, le-trans (le-of-eq (c .before .before .before .before .jobs .ensures)) (good (a .table .now) (start .pre .0) .few-jobs)))
 
 ranks-in-turn-requires : tie.Need-ranks-in-turn-requires
 ranks-in-turn-requires c κs =
     let start = c .before .before .before .before .before .before .before .before in
     let a = start .args in
-    (c .before .before .before .before .by-ready .ensures, (c .before .before .before .by-urgency .ensures, (c .before .before .before .before .before .jobs .ensures, omega (arith, c .before .before .before .before .before .jobs .ensures, good (a .table .now) (start .pre .0) .few-jobs))))
+    (c .before .before .before .before .by-ready .ensures, (c .before .before .before .by-urgency .ensures, (c .before .before .before .before .before .jobs .ensures, le-trans (le-of-eq (c .before .before .before .before .before .jobs .ensures)) (good (a .table .now) (start .pre .0) .few-jobs))))
 
 counts-of-requires : tie.Need-counts-of-requires
 counts-of-requires c κs =
@@ -51,13 +51,13 @@ counts-of-requires c κs =
         (record {
           fine = start .pre .0;
           all = c .before .before .before .before .before .before .before .before .before .before .jobs .ensures;
-          few = omega (arith, c .before .before .before .before .before .before .before .before .before .before .jobs .ensures, good (a .table .now) (start .pre .0) .few-jobs);
+          few = le-trans (le-of-eq (c .before .before .before .before .before .before .before .before .before .before .jobs .ensures)) (good (a .table .now) (start .pre .0) .few-jobs);
           ready-at = c .before .before .before .before .before .before .before .in-turn .ensures;
           run-at = c .before .before .before .before .before .before .in-turn2 .ensures;
           recovery-at = c .before .before .before .before .before .in-turn3 .ensures;
           rank-at = c .before .before .before .before .ranks-in-turn .ensures;
         }),
-        (start .pre .1 .0, omega (arith, c .before .before .before .before .before .before .before .before .before .before .jobs .ensures, start .pre .1 .1)),
+        (start .pre .1 .0, lt-of-lt-of-le (start .pre .1 .1) (le-of-eq (sym (c .before .before .before .before .before .before .before .before .before .before .jobs .ensures)))),
       ),
     )
 
@@ -65,7 +65,7 @@ fill-from-requires : tie.Need-fill-from-requires
 fill-from-requires c κs =
     let start = c .before .before .before .before .before .before .before .before .before .before .before .before .before .before .before .before in
     let a = start .args in
-    (omega (arith, c .before .before .before .before .before .before .before .before .before .before .before .before .before .jobs .ensures, start .pre .1 .2), omega (arith, c .before .before .before .before .before .before .before .before .before .before .before .before .before .jobs .ensures, good (a .table .now) (start .pre .0) .few-jobs))
+    (le-trans (le-of-eq (c .before .before .before .before .before .before .before .before .before .before .before .before .before .jobs .ensures)) (start .pre .1 .2), le-trans (le-of-eq (c .before .before .before .before .before .before .before .before .before .before .before .before .before .jobs .ensures)) (good (a .table .now) (start .pre .0) .few-jobs))
 
 same-length : tie.Need-same-length
 same-length c = c .before .before .fill-from .kept .0

@@ -1,6 +1,6 @@
 -- `judge::asks::judge_frame` meets its contract: the walks by turn give every latest finish, the verdict is found by rank, and the pattern is
 -- unwound for it; the two buffers are filled from arrays. Assumes nothing.
-use native.Mathlib.Omega.{arith}
+use native.Mathlib.Nat.{le-trans, le-of-eq}
 use Prim.Native.Nat.{ℕ}
 use mathlib.Core.Path.{_∙_, ap}
 use Rattle.jobs.proofs.Refusals.{good}
@@ -24,25 +24,25 @@ in-turn-requires : tie.Need-in-turn-requires
 in-turn-requires c κs =
     let start = c .before .before .before .before .before .before in
     let a = start .args in
-    (c .before .by-ready .ensures, (c .before .before .jobs .ensures, omega (arith, c .before .before .jobs .ensures, good (a .table .now) (start .pre .0) .few-jobs)))
+    (c .before .by-ready .ensures, (c .before .before .jobs .ensures, le-trans (le-of-eq (c .before .before .jobs .ensures)) (good (a .table .now) (start .pre .0) .few-jobs)))
 
 in-turn-requires-2 : tie.Need-in-turn-requires-2
 in-turn-requires-2 c κs =
     let start = c .before .before .before .before .before .before .before in
     let a = start .args in
-    (c .before .before .by-ready .ensures, (c .before .before .before .jobs .ensures, omega (arith, c .before .before .before .jobs .ensures, good (a .table .now) (start .pre .0) .few-jobs)))
+    (c .before .before .by-ready .ensures, (c .before .before .before .jobs .ensures, le-trans (le-of-eq (c .before .before .before .jobs .ensures)) (good (a .table .now) (start .pre .0) .few-jobs)))
 
 in-turn-requires-3 : tie.Need-in-turn-requires-3
 in-turn-requires-3 c κs =
     let start = c .before .before .before .before .before .before .before .before in
     let a = start .args in
-    (c .before .before .before .by-ready .ensures, (c .before .before .before .before .jobs .ensures, omega (arith, c .before .before .before .before .jobs .ensures, good (a .table .now) (start .pre .0) .few-jobs)))
+    (c .before .before .before .by-ready .ensures, (c .before .before .before .before .jobs .ensures, le-trans (le-of-eq (c .before .before .before .before .jobs .ensures)) (good (a .table .now) (start .pre .0) .few-jobs)))
 
 ranks-in-turn-requires : tie.Need-ranks-in-turn-requires
 ranks-in-turn-requires c κs =
     let start = c .before .before .before .before .before .before .before .before .before in
     let a = start .args in
-    (c .before .before .before .before .by-ready .ensures, (c .before .before .before .by-urgency .ensures, (c .before .before .before .before .before .jobs .ensures, omega (arith, c .before .before .before .before .before .jobs .ensures, good (a .table .now) (start .pre .0) .few-jobs))))
+    (c .before .before .before .before .by-ready .ensures, (c .before .before .before .by-urgency .ensures, (c .before .before .before .before .before .jobs .ensures, le-trans (le-of-eq (c .before .before .before .before .before .jobs .ensures)) (good (a .table .now) (start .pre .0) .few-jobs))))
 
 all-latest-requires : tie.Need-all-latest-requires
 all-latest-requires c κs =
@@ -53,7 +53,7 @@ all-latest-requires c κs =
         (record {
           fine = start .pre .0;
           all = c .before .before .before .before .before .before .before .before .before .before .jobs .ensures;
-          few = omega (arith, c .before .before .before .before .before .before .before .before .before .before .jobs .ensures, good (a .table .now) (start .pre .0) .few-jobs);
+          few = le-trans (le-of-eq (c .before .before .before .before .before .before .before .before .before .before .jobs .ensures)) (good (a .table .now) (start .pre .0) .few-jobs);
           ready-at = c .before .before .before .before .before .before .before .in-turn .ensures;
           run-at = c .before .before .before .before .before .before .in-turn2 .ensures;
           recovery-at = c .before .before .before .before .before .in-turn3 .ensures;
@@ -67,7 +67,7 @@ verdict-on-requires : tie.Need-verdict-on-requires
 verdict-on-requires c κs =
     let start = c .before .before .before .before .before .before .before .before .before .before .before .before .before .before .before .before in
     let a = start .args in
-    (c .before .before .before .before .before .before .before .before .before .before .by-urgency .ensures, (c .before .all-latest .ensures, (c .before .before .before .before .before .before .before .before .before .before .before .before .jobs .ensures, omega (arith, c .before .before .before .before .before .before .before .before .before .before .before .before .jobs .ensures, good (a .table .now) (start .pre .0) .few-jobs))))
+    (c .before .before .before .before .before .before .before .before .before .before .by-urgency .ensures, (c .before .all-latest .ensures, (c .before .before .before .before .before .before .before .before .before .before .before .before .jobs .ensures, le-trans (le-of-eq (c .before .before .before .before .before .before .before .before .before .before .before .before .jobs .ensures)) (good (a .table .now) (start .pre .0) .few-jobs))))
 
 counts-for-requires : tie.Need-counts-for-requires
 counts-for-requires c κs =
@@ -78,7 +78,7 @@ counts-for-requires c κs =
         (record {
           fine = start .pre .0;
           all = c .before .before .before .before .before .before .before .before .before .before .before .before .before .before .before .before .before .jobs .ensures;
-          few = omega (arith, c .before .before .before .before .before .before .before .before .before .before .before .before .before .before .before .before .before .jobs .ensures, good (a .table .now) (start .pre .0) .few-jobs);
+          few = le-trans (le-of-eq (c .before .before .before .before .before .before .before .before .before .before .before .before .before .before .before .before .before .jobs .ensures)) (good (a .table .now) (start .pre .0) .few-jobs);
           ready-at = c .before .before .before .before .before .before .before .before .before .before .before .before .before .before .in-turn .ensures;
           run-at = c .before .before .before .before .before .before .before .before .before .before .before .before .before .in-turn2 .ensures;
           recovery-at = c .before .before .before .before .before .before .before .before .before .before .before .before .in-turn3 .ensures;
@@ -92,13 +92,13 @@ fill-from-requires : tie.Need-fill-from-requires
 fill-from-requires c κs =
     let start = c .before .before .before .before .before .before .before .before .before .before .before .before .before .before .before .before .before .before .before .before .before .before .before .before in
     let a = start .args in
-    (omega (arith, c .before .before .before .before .before .before .before .before .before .before .before .before .before .before .before .before .before .before .before .before .jobs .ensures, start .pre .1 .1), omega (arith, c .before .before .before .before .before .before .before .before .before .before .before .before .before .before .before .before .before .before .before .before .jobs .ensures, good (a .table .now) (start .pre .0) .few-jobs))
+    (le-trans (le-of-eq (c .before .before .before .before .before .before .before .before .before .before .before .before .before .before .before .before .before .before .before .before .jobs .ensures)) (start .pre .1 .1), le-trans (le-of-eq (c .before .before .before .before .before .before .before .before .before .before .before .before .before .before .before .before .before .before .before .before .jobs .ensures)) (good (a .table .now) (start .pre .0) .few-jobs))
 
 fill-from-requires-2 : tie.Need-fill-from-requires-2
 fill-from-requires-2 c κs =
     let start = c .before .before .before .before .before .before .before .before .before .before .before .before .before .before .before .before .before .before .before .before .before .before .before .before .before .before .before .before .before in
     let a = start .args in
-    (omega (arith, c .before .before .before .before .before .before .before .before .before .before .before .before .before .before .before .before .before .before .before .before .before .before .before .before .before .jobs .ensures, start .pre .1 .2), omega (arith, c .before .before .before .before .before .before .before .before .before .before .before .before .before .before .before .before .before .before .before .before .before .before .before .before .before .jobs .ensures, good (a .table .now) (start .pre .0) .few-jobs))
+    (le-trans (le-of-eq (c .before .before .before .before .before .before .before .before .before .before .before .before .before .before .before .before .before .before .before .before .before .before .before .before .before .jobs .ensures)) (start .pre .1 .2), le-trans (le-of-eq (c .before .before .before .before .before .before .before .before .before .before .before .before .before .before .before .before .before .before .before .before .before .before .before .before .before .jobs .ensures)) (good (a .table .now) (start .pre .0) .few-jobs))
 
 same-length : tie.Need-same-length
 same-length c = c .before .before .before .before .before .before .before .fill-from .kept .0

@@ -1,19 +1,14 @@
 -- `judge::trail::trail_of` meets its contract: after q turns the cells hold the walk's row and the faults of the first q turns are noted.
 -- Assumes nothing.
-use borrow.Author.Needs.{needs}
-use native.Mathlib.Omega.{arith}
-use Prim.Native.Nat.{ℕ, _-_}
-use mathlib.Core.Path.{_≡_, refl, sym, _∙_, ap}
+use lib.Dec.{lit<, lit≤}
+use native.Mathlib.Nat.{lt-of-lt-of-le}
+use Prim.Native.Nat.{_-_}
+use mathlib.Core.Path.{refl, sym, _∙_}
 use lib.ListN.{replicate}
-use Rattle.judge.proofs.Arrays.{holds-zeros}
+use Rattle.judge.proofs.Arrays.{holds-zeros, offset-fits, next-fits, fewer-left}
 use Rattle.judge.proofs.ByTurn.{Walked, Noted, stops-is, stops-here, stops-nowhere, made-fits, walked-none, walked-more, noted-none, noted-more}
 use Rattle.judge.proofs.trail.trail_of.Statement.{statement}
 use Rattle.judge.proofs.trail.trail_of.Tie as tie
-use Rattle.judge.proofs.trail.trail_of.Reads as reads
-use Rattle.judge.proofs.trail.trail_of.Lts as lts
-use Rattle.judge.proofs.trail.picked.Reads as picked-reads
-use Rattle.judge.proofs.turns.ends_before.Reads as ends-before-reads
-use Rattle.judge.proofs.turns.turned.Reads as turned-reads
 
 abbrev Inv-loop : tie.InvT-loop
 Inv-loop table ready run recovery rank n k own mine row₀ picks₀ q₀ row picks q = Walked table n k own q row × Noted table own q picks
@@ -22,10 +17,10 @@ abbrev μ-loop : tie.MeasureT-loop
 μ-loop table ready run recovery rank n k own mine row₀ picks₀ q₀ row picks q = n - q
 
 mul-mine : tie.Need-mul-mine Inv-loop μ-loop
-mul-mine c = search needs
+mul-mine c = offset-fits 4 (c .before .pre .1 .1) (c .before .pre .0 .few) (lit< tt)
 
 element-copy-out-mine : tie.Need-element-copy-out-mine Inv-loop μ-loop
-element-copy-out-mine c = search needs
+element-copy-out-mine c = lt-of-lt-of-le (c .before .pre .1 .1) (c .before .pre .0 .few)
 
 loop-holds : tie.Need-loop-holds Inv-loop μ-loop
 loop-holds c =
@@ -34,22 +29,22 @@ loop-holds c =
     (walked-none (a .table .now) (a .n) (a .k) (a .ready .now) (a .run .now) (a .recovery .now) (a .rank .now) (start .pre .0) (start .pre .1 .0) (a .own) (start .pre .1 .1) (replicate 9 0) (holds-zeros 9), noted-none (a .table .now) (a .own) _ refl)
 
 mul-on : tie.Need-mul-on Inv-loop μ-loop
-mul-on c = search needs
+mul-on c = offset-fits 4 (c .loop-test .taken) (c .before .before .before .before .pre .0 .few) (lit< tt)
 
 element-copy-out-on : tie.Need-element-copy-out-on Inv-loop μ-loop
-element-copy-out-on c = search needs
+element-copy-out-on c = lt-of-lt-of-le (c .loop-test .taken) (c .before .before .before .before .pre .0 .few)
 
 mul-ends-before : tie.Need-mul-ends-before Inv-loop μ-loop
-mul-ends-before c = search needs
+mul-ends-before c = offset-fits 4 (c .before .before .before .before .before .pre .1 .0) (lit≤ tt) (lit< tt)
 
 array-read-ends-before : tie.Need-array-read-ends-before Inv-loop μ-loop
-array-read-ends-before c = search needs
+array-read-ends-before c = c .before .before .before .before .before .pre .1 .0
 
 mul-ends-before-2 : tie.Need-mul-ends-before-2 Inv-loop μ-loop
-mul-ends-before-2 c = search needs
+mul-ends-before-2 c = offset-fits 4 (c .before .loop-test .taken) (c .before .before .before .before .before .pre .0 .few) (lit< tt)
 
 element-copy-out-ends-before : tie.Need-element-copy-out-ends-before Inv-loop μ-loop
-element-copy-out-ends-before c = search needs
+element-copy-out-ends-before c = lt-of-lt-of-le (c .before .loop-test .taken) (c .before .before .before .before .before .pre .0 .few)
 
 ends-before-requires : tie.Need-ends-before-requires Inv-loop μ-loop
 ends-before-requires c κs = tt
@@ -61,28 +56,28 @@ returns c =
     let a = start .args in
     record {
       stops-at =
-          stops-here (a .table .now) (a .n) (a .k) (a .ready .now) (a .run .now) (a .recovery .now) (a .rank .now) (start .pre .0) (start .pre .1 .0) (a .own) (start .pre .1 .1) (at .loop .q) (omega arith) (at .loop .row) (at .loop .inv .0)
-          (sym (stops-is (a .table .now) (a .n) (a .k) (a .ready .now) (a .run .now) (a .recovery .now) (a .rank .now) (start .pre .0) (start .pre .1 .0) (a .own) (start .pre .1 .1) (at .loop .q) (omega arith) (at .loop .row) (at .loop .inv .0)) ∙ sym (c .before .ends-before .ensures) ∙ c .if1 .taken);
+          stops-here (a .table .now) (a .n) (a .k) (a .ready .now) (a .run .now) (a .recovery .now) (a .rank .now) (start .pre .0) (start .pre .1 .0) (a .own) (start .pre .1 .1) (at .loop .q) (c .before .before .before .before .loop-test .taken) (at .loop .row) (at .loop .inv .0)
+          (sym (stops-is (a .table .now) (a .n) (a .k) (a .ready .now) (a .run .now) (a .recovery .now) (a .rank .now) (start .pre .0) (start .pre .1 .0) (a .own) (start .pre .1 .1) (at .loop .q) (c .before .before .before .before .loop-test .taken) (at .loop .row) (at .loop .inv .0)) ∙ sym (c .before .ends-before .ensures) ∙ c .if1 .taken);
       notes = λ q d l. at .loop .inv .1 .each q d l;
     }
 
 mul-picked : tie.Need-mul-picked Inv-loop μ-loop
-mul-picked c = search needs
+mul-picked c = offset-fits 4 (c .before .before .before .before .loop-test .taken) (c .before .before .before .before .before .before .before .before .pre .0 .few) (lit< tt)
 
 element-copy-out-picked : tie.Need-element-copy-out-picked Inv-loop μ-loop
-element-copy-out-picked c = search needs
+element-copy-out-picked c = lt-of-lt-of-le (c .before .before .before .before .loop-test .taken) (c .before .before .before .before .before .before .before .before .pre .0 .few)
 
 mul-picked-2 : tie.Need-mul-picked-2 Inv-loop μ-loop
-mul-picked-2 c = search needs
+mul-picked-2 c = offset-fits 4 (c .before .before .before .before .before .loop-test .taken) (c .before .before .before .before .before .before .before .before .before .pre .0 .few) (lit< tt)
 
 element-copy-out-picked-2 : tie.Need-element-copy-out-picked-2 Inv-loop μ-loop
-element-copy-out-picked-2 c = search needs
+element-copy-out-picked-2 c = lt-of-lt-of-le (c .before .before .before .before .before .loop-test .taken) (c .before .before .before .before .before .before .before .before .before .pre .0 .few)
 
 mul-picked-3 : tie.Need-mul-picked-3 Inv-loop μ-loop
-mul-picked-3 c = search needs
+mul-picked-3 c = offset-fits 4 (c .before .before .before .before .before .before .loop-test .taken) (c .before .before .before .before .before .before .before .before .before .before .pre .0 .few) (lit< tt)
 
 element-copy-out-picked-3 : tie.Need-element-copy-out-picked-3 Inv-loop μ-loop
-element-copy-out-picked-3 c = search needs
+element-copy-out-picked-3 c = lt-of-lt-of-le (c .before .before .before .before .before .before .loop-test .taken) (c .before .before .before .before .before .before .before .before .before .before .pre .0 .few)
 
 picked-requires : tie.Need-picked-requires Inv-loop μ-loop
 picked-requires c κs =
@@ -90,32 +85,32 @@ picked-requires c κs =
     let start = at .before .before .before in
     let a = start .args in (
       record { long = at .loop .inv .0 .holds .long; each = λ w l. refl },
-      made-fits (a .table .now) (a .n) (a .k) (a .ready .now) (a .run .now) (a .recovery .now) (a .rank .now) (start .pre .0) (start .pre .1 .0) (a .own) (start .pre .1 .1) (at .loop .q) (omega arith) (at .loop .row) (at .loop .inv .0),
+      made-fits (a .table .now) (a .n) (a .k) (a .ready .now) (a .run .now) (a .recovery .now) (a .rank .now) (start .pre .0) (start .pre .1 .0) (a .own) (start .pre .1 .1) (at .loop .q) (c .before .before .before .before .before .before .before .loop-test .taken) (at .loop .row) (at .loop .inv .0),
     )
 
 mul-picks : tie.Need-mul-picks Inv-loop μ-loop
-mul-picks c = search needs
+mul-picks c = offset-fits 9 (c .before .before .before .before .before .before .before .before .loop-test .taken) (c .before .before .before .before .before .before .before .before .before .before .before .before .pre .0 .few) (lit< tt)
 
 array-set-from-picks : tie.Need-array-set-from-picks Inv-loop μ-loop
-array-set-from-picks c = search needs
+array-set-from-picks c = lt-of-lt-of-le (c .before .before .before .before .before .before .before .before .loop-test .taken) (c .before .before .before .before .before .before .before .before .before .before .before .before .pre .0 .few)
 
 mul-turned : tie.Need-mul-turned Inv-loop μ-loop
-mul-turned c = search needs
+mul-turned c = offset-fits 4 (c .before .before .before .before .before .before .before .before .loop-test .taken) (c .before .before .before .before .before .before .before .before .before .before .before .before .pre .0 .few) (lit< tt)
 
 element-copy-out-turned : tie.Need-element-copy-out-turned Inv-loop μ-loop
-element-copy-out-turned c = search needs
+element-copy-out-turned c = lt-of-lt-of-le (c .before .before .before .before .before .before .before .before .loop-test .taken) (c .before .before .before .before .before .before .before .before .before .before .before .before .pre .0 .few)
 
 mul-turned-2 : tie.Need-mul-turned-2 Inv-loop μ-loop
-mul-turned-2 c = search needs
+mul-turned-2 c = offset-fits 4 (c .before .before .before .before .before .before .before .before .before .loop-test .taken) (c .before .before .before .before .before .before .before .before .before .before .before .before .before .pre .0 .few) (lit< tt)
 
 element-copy-out-turned-2 : tie.Need-element-copy-out-turned-2 Inv-loop μ-loop
-element-copy-out-turned-2 c = search needs
+element-copy-out-turned-2 c = lt-of-lt-of-le (c .before .before .before .before .before .before .before .before .before .loop-test .taken) (c .before .before .before .before .before .before .before .before .before .before .before .before .before .pre .0 .few)
 
 mul-turned-3 : tie.Need-mul-turned-3 Inv-loop μ-loop
-mul-turned-3 c = search needs
+mul-turned-3 c = offset-fits 4 (c .before .before .before .before .before .before .before .before .before .before .loop-test .taken) (c .before .before .before .before .before .before .before .before .before .before .before .before .before .before .pre .0 .few) (lit< tt)
 
 element-copy-out-turned-3 : tie.Need-element-copy-out-turned-3 Inv-loop μ-loop
-element-copy-out-turned-3 c = search needs
+element-copy-out-turned-3 c = lt-of-lt-of-le (c .before .before .before .before .before .before .before .before .before .before .loop-test .taken) (c .before .before .before .before .before .before .before .before .before .before .before .before .before .before .pre .0 .few)
 
 turned-requires : tie.Need-turned-requires Inv-loop μ-loop
 turned-requires c κs =
@@ -127,10 +122,10 @@ turned-requires c κs =
     )
 
 add-q : tie.Need-add-q Inv-loop μ-loop
-add-q c = search needs
+add-q c = next-fits (c .before .before .before .before .before .before .before .before .before .before .before .before .loop-test .taken) (c .before .before .before .before .before .before .before .before .before .before .before .before .before .before .before .before .pre .0 .few)
 
 loop-less : tie.Need-loop-less Inv-loop μ-loop
-loop-less c = search needs
+loop-less c = fewer-left (c .before .before .before .before .before .before .before .before .before .before .before .before .loop-test .taken)
 
 loop-again : tie.Need-loop-again Inv-loop μ-loop
 loop-again c =
@@ -150,7 +145,7 @@ returns-2 c =
     let start = at .before .before .before in
     let a = start .args in
     record {
-      stops-at = stops-nowhere (a .table .now) (a .n) (a .k) (a .ready .now) (a .run .now) (a .recovery .now) (a .rank .now) (start .pre .0) (start .pre .1 .0) (a .own) (start .pre .1 .1) (at .loop .q) (at .loop .row) (at .loop .inv .0) (omega arith);
+      stops-at = stops-nowhere (a .table .now) (a .n) (a .k) (a .ready .now) (a .run .now) (a .recovery .now) (a .rank .now) (start .pre .0) (start .pre .1 .0) (a .own) (start .pre .1 .1) (at .loop .q) (at .loop .row) (at .loop .inv .0) (c .loop-test .left);
       notes = λ q d l. at .loop .inv .1 .each q d l;
     }
 
