@@ -15,7 +15,6 @@ use borrow.Author.Tests.{ltb-true, ltb-false, eq-eqb, ne-eqb, eqb-true, eqb-fals
 use Rattle.jobs.specs.Below.{total, count}
 use Rattle.jobs.specs.Table.{jobs, recovery}
 use Rattle.jobs.proofs.Below.{by-cases, total-same, total-zero, total-one, count-none}
-use Rattle.jobs.proofs.Orders.{Rearranges}
 use Rattle.jobs.proofs.Refusals.{Good}
 use Rattle.frame.specs.Schedule.{idle, noFaults, freeSlots}
 use Rattle.frame.specs.Delays.{faultFree, extra}

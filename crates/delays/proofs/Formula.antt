@@ -5,20 +5,19 @@
 use Prim.Native.Nat.{ℕ, zero, suc, _+_, _-_, _≤_, _<_}
 use native.Mathlib.Nat.{le-antisymm, add-zero, add-suc, add-sub-of-le}
 use native.Mathlib.Omega.{arith}
-use mathlib.Core.Path.{_≡_, refl, sym, ap, _∙_}
-use mathlib.Core.List.{List, [], _∷_}
+use mathlib.Core.Path.{_≡_, sym, ap, _∙_}
+use mathlib.Core.List.{List}
 use lib.ListN.{length, getD}
 use Rattle.jobs.specs.Below.{total, listed}
 use Rattle.jobs.specs.Table.{jobs}
 use Rattle.jobs.proofs.Below.{total-same, total-more, total-rearranged, length-listed, getD-listed}
-use Rattle.jobs.proofs.Orders.{Rearranges}
 use Rattle.jobs.proofs.Refusals.{Good}
-use Rattle.frame.specs.Latest.{sum, AtMost, overPatterns}
+use Rattle.frame.specs.Latest.{sum, AtMost}
 use Rattle.frame.specs.Delays.{faultFree, extra, mostExtra, delay}
 use Rattle.frame.proofs.Bounds.{sum-total}
-use Rattle.frame.proofs.Patterns.{Reaches, patterns-bound, patterns-reach}
+use Rattle.frame.proofs.Patterns.{patterns-bound, patterns-reach}
 use Rattle.delays.specs.Places.{placeOf, jobAtPlace, freeAt, recoveryAt, delayRow}
-use Rattle.delays.proofs.Rows.{leaves, leaves-same, rows-bound, Leaves, rows-reached}
+use Rattle.delays.proofs.Rows.{leaves-same, rows-bound, Leaves, rows-reached}
 use Rattle.delays.proofs.Places.{places}
 use Rattle.delays.proofs.Extra.{faultsAt, extra-at-finish}
 

@@ -5,3 +5,4 @@ pub mod Extra
 pub mod Formula
 pub mod Promise
 pub mod Walk
+pub mod Cases

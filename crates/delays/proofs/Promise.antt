@@ -2,10 +2,9 @@
 --
 -- In order: the schedule under a pattern of zeros; free slots between two finishes; the refusals of delays taken apart; its promise in either
 -- case; that two results which it allows are equal: the answer and the buffer are each equal to the same definition. Assumes nothing.
-use Prim.Native.Nat.{ℕ, zero, suc, _+_, _≤_, _<_}
+use Prim.Native.Nat.{ℕ, zero, suc, _≤_, _<_}
 use native.Mathlib.Omega.{arith}
 use mathlib.Core.Path.{_≡_, refl, sym, ap, _∙_}
-use mathlib.Core.Bool.{not}
 use mathlib.Core.List.{List, [], _∷_}
 use lib.ListN.{length, take, replicate, length-replicate}
 use borrow.Author.Tests.{ltb-false, le-ltb, eq-eqb}
@@ -13,8 +12,7 @@ use Rattle.jobs.specs.Table.{jobs}
 use Rattle.jobs.specs.Refusals.{after, first, tableRefusals, tooManyFaults}
 use Rattle.jobs.specs.declared.Check.{Check}
 use Rattle.jobs.specs.declared.Check.the-variants.{Fine, Refused}
-use Rattle.jobs.proofs.Orders.{Rearranges}
-use Rattle.jobs.proofs.Refusals.{Good, good, not-given, after-fine, after-last, first-append}
+use Rattle.jobs.proofs.Refusals.{good, not-given, after-fine, after-last, first-append}
 use Rattle.frame.specs.Schedule.{finish, noFaults, freeSlots}
 use Rattle.frame.specs.Latest.{sum, AtMost}
 use Rattle.frame.specs.Delays.{faultFree, delay}

@@ -1,9 +1,9 @@
 -- The walk over the finishes, as the code does it: after p of them the nine cells hold the row of formula (6), and the words of the jobs that
 -- finished hold their delays. In order: at the start; one finish more; at the end. Assumes nothing.
-use Prim.Native.Nat.{ℕ, zero, suc, _+_, _*_, _≤_, _<_, _^_, zero-le}
+use Prim.Native.Nat.{ℕ, suc, _+_, _≤_, _<_, zero-le}
 use native.Mathlib.Numerals.{add-one}
 use native.Mathlib.Omega.{arith}
-use mathlib.Core.Path.{_≡_, refl, sym, ap, _∙_, subst}
+use mathlib.Core.Path.{_≡_, refl, sym, ap, _∙_}
 use mathlib.Core.List.{List}
 use lib.ListN.{length, getD, set, replicate, length-set}
 use lib.Seq.{getD-set-same, getD-set-other}
@@ -16,14 +16,14 @@ use Rattle.jobs.specs.declared.Check.the-variants.{Fine}
 use Rattle.jobs.specs.declared.Job.{Job}
 use Rattle.jobs.proofs.Below.{by-cases, below-suc}
 use Rattle.jobs.proofs.Placed.{getD-filled}
-use Rattle.jobs.proofs.Orders.{Rearranges, held-all}
-use Rattle.jobs.proofs.Refusals.{Good, good}
-use Rattle.frame.specs.Schedule.{noFaults, freeSlots}
+use Rattle.jobs.proofs.Orders.{held-all}
+use Rattle.jobs.proofs.Refusals.{good}
+use Rattle.frame.specs.Schedule.{freeSlots}
 use Rattle.frame.specs.Delays.{faultFree, delay}
 use Rattle.frame.specs.Asks.{freeSlotsRefusals, fill}
-use Rattle.frame.proofs.Fill.{Written, written-fill}
+use Rattle.frame.proofs.Fill.{written-fill}
 use Rattle.delays.specs.Rows.{nextRow, rows, Holds, Fit, values}
-use Rattle.delays.specs.Places.{placeOf, jobAtPlace, finishAt, lastFinish, freeAt, recoveryAt, delayRow}
+use Rattle.delays.specs.Places.{placeOf, jobAtPlace, lastFinish, freeAt, recoveryAt, delayRow}
 use Rattle.delays.proofs.Arrays.{holds-same, holds-zeros}
 use Rattle.delays.proofs.Rows.{next-same, rows-fit}
 use Rattle.delays.proofs.Places.{places}

@@ -4,12 +4,6 @@ use mathlib.Core.Path.{sym}
 use Rattle.delays.proofs.Promise.{delays-refusals}
 use Rattle.delays.proofs.check_delays.Statement.{statement}
 use Rattle.delays.proofs.check_delays.Tie as tie
-use Rattle.delays.proofs.check_delays.Reads as reads
-use Rattle.delays.proofs.check_delays.Lts as lts
-use Rattle.frame.proofs.check_room.Reads as check-room-reads
-use Rattle.jobs.proofs.check_faults.Reads as check-faults-reads
-use Rattle.jobs.proofs.check_table.Reads as check-table-reads
-use Rattle.jobs.proofs.first_of.Reads as first-of-reads
 
 check-faults-requires : tie.Need-check-faults-requires
 check-faults-requires c κs = tt

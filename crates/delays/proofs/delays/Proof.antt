@@ -5,10 +5,6 @@ use lib.ListN.{length}
 use Rattle.delays.proofs.Promise.{not-refused, delayed-fine, delayed-refused}
 use Rattle.delays.proofs.delays.Statement.{statement}
 use Rattle.delays.proofs.delays.Tie as tie
-use Rattle.delays.proofs.delays.Reads as reads
-use Rattle.delays.proofs.delays.Lts as lts
-use Rattle.delays.proofs.check_delays.Reads as check-delays-reads
-use Rattle.delays.proofs.fill_delays.Reads as fill-delays-reads
 
 check-delays-requires : tie.Need-check-delays-requires
 check-delays-requires c κs = tt

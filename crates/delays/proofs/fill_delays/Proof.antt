@@ -12,14 +12,6 @@ use Rattle.delays.specs.Places.{jobAtPlace}
 use Rattle.delays.proofs.Walk.{Walked, order-is-places, place-below, next-accepted, next-fits, walked-none, walked-more, walked-done}
 use Rattle.delays.proofs.fill_delays.Statement.{statement}
 use Rattle.delays.proofs.fill_delays.Tie as tie
-use Rattle.delays.proofs.fill_delays.Reads as reads
-use Rattle.delays.proofs.fill_delays.Lts as lts
-use Rattle.delays.proofs.finishing.by_finish.Reads as by-finish-reads
-use Rattle.delays.proofs.finishing.fault_free.Reads as fault-free-reads
-use Rattle.delays.proofs.free_between.Reads as free-between-reads
-use Rattle.delays.proofs.row.next_row.Reads as next-row-reads
-use Rattle.jobs.proofs.jobs.Reads as jobs-reads
-use Rattle.jobs.proofs.recovery.Reads as recovery-reads
 
 abbrev Inv-loop : tie.InvT-loop
 Inv-loop table k delays₀ n finishes order row₀ last₀ p₀ delays row last p = Walked table k delays₀ p row last delays

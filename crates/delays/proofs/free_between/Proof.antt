@@ -3,9 +3,6 @@
 use Rattle.delays.proofs.Promise.{slots-counted, slots-not-refused}
 use Rattle.delays.proofs.free_between.Statement.{statement}
 use Rattle.delays.proofs.free_between.Tie as tie
-use Rattle.delays.proofs.free_between.Reads as reads
-use Rattle.delays.proofs.free_between.Lts as lts
-use Rattle.frame.proofs.free_slots.Reads as free-slots-reads
 
 free-slots-requires : tie.Need-free-slots-requires
 free-slots-requires c κs = tt

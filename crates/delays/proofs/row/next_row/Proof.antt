@@ -1,17 +1,12 @@
 -- `delays::row::next_row` meets its contract: after w turns the first w cells hold the row, each made from the one before it; the cell for no
 -- faults is zero from the start. Assumes nothing.
-use Prim.Native.Nat.{ℕ, _+_, _-_, _≤_, _<_, max}
+use Prim.Native.Nat.{_-_, _≤_}
 use native.Mathlib.Omega.{arith}
-use mathlib.Core.Path.{_≡_, _∙_, sym, ap}
 use Rattle.delays.specs.Rows.{nextRow, values, Holds}
 use Rattle.delays.proofs.Rows.{next-start, next-at}
 use Rattle.delays.proofs.Arrays.{holds-more, holds-to}
 use Rattle.delays.proofs.row.next_row.Statement.{statement}
 use Rattle.delays.proofs.row.next_row.Tie as tie
-use Rattle.delays.proofs.row.next_row.Reads as reads
-use Rattle.delays.proofs.row.next_row.Lts as lts
-use Rattle.delays.proofs.row.larger.Reads as larger-reads
-use Rattle.delays.proofs.row.less.Reads as less-reads
 
 abbrev Inv-loop : tie.InvT-loop
 Inv-loop free recovery last next₀ w₀ next w = (1 ≤ w) × (w ≤ 9) × Holds 9 next w (nextRow free recovery (values last))
