@@ -19,7 +19,7 @@ use Rattle.jobs.proofs.Below.{by-cases, total-le, total-add, greatest-bounds}
 use Rattle.jobs.proofs.Refusals.{Good}
 use Rattle.frame.specs.Schedule.{need, finish}
 use Rattle.frame.specs.Latest.{sum, AtMost, latest, verdict}
-use Rattle.frame.specs.declared.Verdict.the-variants.{Sound}
+use Rattle.frame.specs.declared.Verdict.the-variants.{Sound, Miss}
 use Rattle.frame.proofs.Finish.{atLeast, workload, finish-bound}
 use Rattle.frame.proofs.Bounds.{sum-total}
 use Rattle.frame.proofs.Patterns.{Reaches, latest-bounds, latest-reached}
