@@ -56,7 +56,8 @@ module _ (table pattern before : List ℕ) where
   scheduled-refused number place refused = record { answers = sym refused; fills = rw refused }
 
   -- Two results that the promise allows are equal.
-  module _ (after after′ : List ℕ) (answer answer′ : Check) (one : Scheduled table pattern before after answer) (other : Scheduled table pattern before after′ answer′) where
+  module _ (after after′ : List ℕ) (answer answer′ : Check) (one : Scheduled table pattern before after answer)
+      (other : Scheduled table pattern before after′ answer′) where
     pub schedule-same-answer : answer ≡ answer′
     schedule-same-answer = one .answers ∙ sym (other .answers)
 

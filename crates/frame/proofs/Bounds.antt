@@ -5,7 +5,7 @@ use Prim.Native.Nat.{ℕ, zero, suc, _+_, _*_, _-_, _≤_, _<_}
 use native.Mathlib.Nat.{add-zero, add-suc, add-mul, suc-mul, mul-le-mul-left, add-sub-of-le}
 use native.Mathlib.Numerals.{add-one}
 use native.Mathlib.Omega.{arith}
-use mathlib.Core.Path.{_≡_, refl, sym, ap, _∙_}
+use mathlib.Core.Path.{_≡_, refl, ap}
 use mathlib.Core.Bool.{cond}
 use mathlib.Core.List.{List, [], _∷_}
 use lib.ListN.{length, getD, drop}
@@ -13,7 +13,7 @@ use lib.Seq.{drop-cons, drop-length}
 use lib.Dec.{ltb}
 use borrow.Author.Tests.{ltb-true, ltb-false}
 use Rattle.jobs.specs.Below.{total}
-use Rattle.jobs.specs.Table.{jobs, ready, run, recovery}
+use Rattle.jobs.specs.Table.{jobs, run, recovery}
 use Rattle.jobs.proofs.Below.{by-cases, total-le, total-add, part-le-total}
 use Rattle.jobs.proofs.Refusals.{Good}
 use Rattle.frame.specs.Schedule.{need, had, finish}

@@ -2,11 +2,11 @@
 --
 -- In order: what each word is; a word more, for a loop that goes through the words in order; a buffer that was written in any order, which is
 -- full as soon as each of its words is right. Assumes nothing.
-use Prim.Native.Nat.{ℕ, zero, suc, _+_, _-_, _≤_, _<_}
+use Prim.Native.Nat.{ℕ, suc, _+_, _-_, _≤_, _<_}
 use native.Mathlib.Numerals.{add-one}
 use native.Mathlib.Omega.{arith}
 use mathlib.Core.Path.{_≡_, refl, sym, ap, _∙_}
-use mathlib.Core.List.{List, [], _∷_, _++_}
+use mathlib.Core.List.{List, _++_}
 use lib.ListN.{length, getD, set, drop, length-append, length-drop, List·getD-append}
 use lib.Seq.{drop-cons, append-snoc, set-at, getD-append-add, getD-drop, ext-getD}
 use lib.Dec.{ltb}

@@ -11,5 +11,6 @@ pub mod FreeSlots
 pub mod Fill
 pub mod Bounds
 pub mod Sorted
+pub mod NextReady
 pub mod Walk
 pub mod Asks

@@ -13,10 +13,10 @@ use Rattle.jobs.specs.Table.{jobs}
 use Rattle.jobs.specs.Urgency.{urgent}
 use Rattle.jobs.specs.Orders.{theJob, theRank, byUrgency}
 use Rattle.jobs.proofs.Below.{by-cases, none-all}
-use Rattle.jobs.proofs.Urgency.{StrictOrder, urgency-order}
+use Rattle.jobs.proofs.Urgency.{urgency-order}
 use Rattle.jobs.proofs.Orders.{Rearranges, urgency-rearranges}
 use Rattle.frame.specs.Schedule.{foremost}
-use Rattle.frame.proofs.Foremost.{Foremost, is-foremost}
+use Rattle.frame.proofs.Foremost.{is-foremost}
 
 -- the job at a rank of the sorted copy, and the rank of a job
 abbrev pub jobOf : List ℕ → ℕ → ℕ

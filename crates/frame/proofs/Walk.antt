@@ -5,13 +5,12 @@
 -- (run-jump), and an idle processor stays idle (idle-jump). Each event ends a job or makes one ready, or is the last: so there are at most
 -- 2n + 1 of them (turns-at-most).
 --
--- In order: the next ready time; what the walk knows; the start; an idle event; a job runs; the end. Assumes nothing.
-use Prim.Native.Nat.{ℕ, zero, suc, _+_, _*_, _-_, _≤_, _<_, min}
-use native.Mathlib.Nat.{add-zero, add-suc, add-sub-of-le}
-use native.Mathlib.Numerals.{add-one}
+-- In order: what the walk knows; the start; an idle event; a job runs; any event; the end. Assumes nothing.
+use Prim.Native.Nat.{ℕ, zero, suc, _+_, _*_, _-_, _≤_, _<_}
+use native.Mathlib.Nat.{add-sub-of-le}
 use native.Mathlib.Omega.{arith}
 use mathlib.Core.Path.{_≡_, refl, sym, ap, _∙_}
-use mathlib.Core.Bool.{Bool, true, false, cond, _&&_, true≢false, false≢true}
+use mathlib.Core.Bool.{true, false, cond, _&&_, true≢false}
 use mathlib.Core.List.{List}
 use lib.ListN.{length, getD, set, length-set}
 use lib.Seq.{getD-set-same, getD-set-other}
@@ -20,75 +19,22 @@ use borrow.Author.Tests.{ltb-true, ltb-false, lt-ltb, le-ltb, eqb-true, eqb-fals
 use Rattle.jobs.specs.Below.{count, some}
 use Rattle.jobs.specs.Table.{jobs, ready}
 use Rattle.jobs.specs.Orders.{filled}
-use Rattle.jobs.proofs.Below.{by-cases, and-left, and-right, below-suc, none-at, count-le, count-less, count-at-most}
+use Rattle.jobs.proofs.Below.{by-cases, none-at, count-le, count-less, count-at-most}
 use Rattle.jobs.proofs.Placed.{length-filled, getD-filled}
 use Rattle.jobs.proofs.Refusals.{Good, good}
 use Rattle.frame.specs.Schedule.{need, foremost, waits, runs, had, finish}
 use Rattle.frame.specs.Asks.{fill}
-use Rattle.frame.specs.Events.{Accepted, never, sooner, nextReady, stillWaits, Chosen, Fits, Ran, Allows, Passes}
+use Rattle.frame.specs.Events.{Accepted, never, nextReady, stillWaits, Chosen, Fits, Ran, Allows, Passes}
 use Rattle.frame.specs.declared.events.Clock.{Clock}
 use Rattle.frame.specs.declared.events.Choice.{Choice}
 use Rattle.frame.specs.declared.events.Choice.the-variants.{Runs, Idle}
 use Rattle.frame.proofs.Foremost.{Foremost, foremost-is, is-foremost}
-use Rattle.frame.proofs.Slots.{waitsAt, runsAt, waits-is, is-waiting, had-within, had-unready}
+use Rattle.frame.proofs.Slots.{waitsAt, runsAt, waits-is, is-waiting, had-unready}
 use Rattle.frame.proofs.Jumps.{Quiet, Ran as Jumped, run-jump, idle-jump}
-use Rattle.frame.proofs.Finish.{Meets, met-finish}
-use Rattle.frame.proofs.Fill.{Written, written-fill}
+use Rattle.frame.proofs.Finish.{met-finish}
+use Rattle.frame.proofs.NextReady.{next-later, next-quiet, next-comes}
+use Rattle.frame.proofs.Fill.{written-fill}
 use Rattle.frame.proofs.Bounds.{need-positive, finish-at-most, finish-no-sooner}
-
--- ---- the next ready time
-
-sooner-cases : {P : Type 0} (next r t : ℕ) → (t < r → r < next → sooner next r t ≡ r → P) → ((t < r → next ≤ r) → sooner next r t ≡ next → P) → P
-sooner-cases next r t f g =
-    by-cases (ltb t r)
-    (λ a.
-    by-cases (ltb r next)
-    (λ b. f (ltb-true t r a) (ltb-true r next b) (rw (a, b)))
-    (λ b. g (λ _. ltb-false r next b) (rw (a, b))))
-    (λ a. g (λ l. absurd (omega (arith, ltb-false t r a))) (rw a))
-
-module _ (table : List ℕ) (t : ℕ) where
-  pub next-none : never ≡ nextReady table t 0
-  unfolding nextReady
-  next-none = refl
-
-  pub next-more : (n next : ℕ) → next ≡ nextReady table t n → sooner next (ready table n) t ≡ nextReady table t (n + 1)
-  unfolding nextReady
-  next-more n next e = rw (add-one, e)
-
-  next-at-most : (n : ℕ) → nextReady table t n ≤ never
-  unfolding nextReady
-  next-at-most zero = omega arith
-  next-at-most (suc n) =
-      sooner-cases (nextReady table t n) (ready table n) t
-      (λ a b e. omega (arith, next-at-most n))
-      (λ a e. omega (arith, next-at-most n))
-
-  next-later : t < never → (n : ℕ) → t < nextReady table t n
-  unfolding nextReady
-  next-later h zero = h
-  next-later h (suc n) =
-      sooner-cases (nextReady table t n) (ready table n) t
-      (λ a b e. omega arith)
-      (λ a e. omega (arith, next-later h n))
-
-  -- no job becomes ready before it
-  next-quiet : (n i : ℕ) → i < n → t < ready table i → nextReady table t n ≤ ready table i
-  unfolding nextReady
-  next-quiet zero i l h = absurd (omega arith)
-  next-quiet (suc n) i l h =
-      sooner-cases (nextReady table t n) (ready table n) t
-      (λ a b e. below-suc l (λ k. omega (arith, next-quiet n i k h)) (λ q. rw q (omega arith)))
-      (λ a e. below-suc l (λ k. omega (arith, next-quiet n i k h)) (λ q. omega (arith, a (rw q at h), ap (ready table) q)))
-
-  -- and then one does
-  next-comes : (n : ℕ) → nextReady table t n < never → (i : ℕ) × (i < n) × (ready table i ≡ nextReady table t n)
-  unfolding nextReady
-  next-comes zero h = absurd (omega arith)
-  next-comes (suc n) h =
-      sooner-cases (nextReady table t n) (ready table n) t
-      (λ a b e. (n, omega arith, sym e))
-      (λ a e. let m = next-comes n (omega arith) in (m .0, omega (arith, m .1), m .2 ∙ sym e))
 
 -- ---- what the walk knows
 
@@ -106,7 +52,7 @@ pub record Stands (table pattern before : List ℕ) (clock : Clock) (left finish
   pub soon : clock .going ≡ true → clock .time < never
   pub over : clock .going ≡ false → (job : ℕ) → job < jobs table → getD left job 0 ≡ 0
 
--- The events that can still come: each job that has something left can end, and each that is not ready can become ready; and the last.
+-- The events that can still come, at most 2n + 1: each job that has something left can end, and each that is not ready can become ready; and the last.
 unfoldable pub turns : List ℕ → Clock → List ℕ → ℕ
 turns table clock left =
     count (jobs table) (λ job. ltb 0 (getD left job 0)) + count (jobs table) (λ job. ltb (clock .time) (ready table job)) + cond (clock .going) 1 0
@@ -114,9 +60,9 @@ turns table clock left =
 pub turns-at-most : (table : List ℕ) (clock : Clock) (left : List ℕ) → turns table clock left ≤ 2 * jobs table + 1
 unfolding turns
 turns-at-most table clock left =
-    by-cases (clock .going)
-    (λ e. rw e (omega (arith, count-at-most (jobs table) (λ job. ltb 0 (getD left job 0)), count-at-most (jobs table) (λ job. ltb (clock .time) (ready table job)))))
-    (λ e. rw e (omega (arith, count-at-most (jobs table) (λ job. ltb 0 (getD left job 0)), count-at-most (jobs table) (λ job. ltb (clock .time) (ready table job)))))
+    let to-end = count-at-most (jobs table) (λ job. ltb 0 (getD left job 0)) in
+    let to-come = count-at-most (jobs table) (λ job. ltb (clock .time) (ready table job)) in
+    by-cases (clock .going) (λ e. rw e (omega arith)) (λ e. rw e (omega arith))
 
 module _ (table pattern before : List ℕ) (accepted : Accepted table pattern) where
   table-good : Good table
@@ -142,7 +88,8 @@ module _ (table pattern before : List ℕ) (accepted : Accepted table pattern) w
       whole : (job : ℕ) → job < jobs table → getD (filled (λ x. x) (jobs table) (need table pattern)) job 0 ≡ need table pattern job
       whole job l = getD-filled (λ x. x) (jobs table) (need table pattern) 0 job l
 
-  module _ (room : jobs table ≤ length before) (time : ℕ) (left finishes : List ℕ) (along : Along table pattern before time left finishes) (soon : time < never) where
+  module _ (room : jobs table ≤ length before) (time : ℕ) (left finishes : List ℕ)
+      (along : Along table pattern before time left finishes) (soon : time < never) where
     abbrev next : ℕ
     next = nextReady table time (jobs table)
 
@@ -162,12 +109,14 @@ module _ (table pattern before : List ℕ) (accepted : Accepted table pattern) w
     after-now = next-later table time soon (jobs table)
 
     -- the jobs not yet ready are no more later on, and fewer at the next ready time
-    unready-le : (u : ℕ) → time ≤ u → count (jobs table) (λ job. ltb u (ready table job)) ≤ count (jobs table) (λ job. ltb time (ready table job))
+    unready-le : (u : ℕ) → time ≤ u
+        → count (jobs table) (λ job. ltb u (ready table job)) ≤ count (jobs table) (λ job. ltb time (ready table job))
     unready-le u h =
         count-le (jobs table) (λ job. ltb u (ready table job)) (λ job. ltb time (ready table job))
         (λ job l e. lt-ltb time (ready table job) (omega (arith, ltb-true u (ready table job) e)))
 
-    unready-less : next < never → count (jobs table) (λ job. ltb next (ready table job)) < count (jobs table) (λ job. ltb time (ready table job))
+    unready-less : next < never
+        → count (jobs table) (λ job. ltb next (ready table job)) < count (jobs table) (λ job. ltb time (ready table job))
     unready-less h =
         let comes = next-comes table time (jobs table) h in
         count-less (jobs table) (λ job. ltb next (ready table job)) (λ job. ltb time (ready table job)) (comes .0) (comes .1)
@@ -217,7 +166,8 @@ module _ (table pattern before : List ℕ) (accepted : Accepted table pattern) w
             over = λ h. nothing-left (ltb-false next never (sym g ∙ h));
           }
 
-      turns-idle : (clock : Clock) → clock .time ≡ next → clock .going ≡ ltb next never → turns table clock left < turns table (record { time = time; going = true }) left
+      turns-idle : (clock : Clock) → clock .time ≡ next → clock .going ≡ ltb next never
+          → turns table clock left < turns table (record { time = time; going = true }) left
       unfolding turns
       turns-idle clock e g =
           rw (e, g)
@@ -330,7 +280,8 @@ module _ (table pattern before : List ℕ) (accepted : Accepted table pattern) w
       abbrev end : ℕ
       end = time + getD left job 0
 
-      module _ (clock : Clock) (left′ finishes′ : List ℕ) (ran : Ran job time next left finishes left′ finishes′ (clock .time)) (going : clock .going ≡ true) where
+      module _ (clock : Clock) (left′ finishes′ : List ℕ) (ran : Ran job time next left finishes left′ finishes′ (clock .time))
+          (going : clock .going ≡ true) where
         -- it runs up to the next ready time
         along-next : next < end → Along table pattern before (clock .time) left′ finishes′
         along-next h =
@@ -442,8 +393,8 @@ module _ (table pattern before : List ℕ) (accepted : Accepted table pattern) w
 
   -- ---- the end
 
-  pub stands-last : jobs table ≤ length before → (clock : Clock) (left finishes : List ℕ) → Stands table pattern before clock left finishes → clock .going ≡ false
-      → finishes ≡ fill (jobs table) (finish table pattern) before
+  pub stands-last : jobs table ≤ length before → (clock : Clock) (left finishes : List ℕ) → Stands table pattern before clock left finishes
+      → clock .going ≡ false → finishes ≡ fill (jobs table) (finish table pattern) before
   stands-last room clock left finishes s e =
       written-fill (finish table pattern) before (jobs table) finishes room
       (record {

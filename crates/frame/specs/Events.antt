@@ -9,6 +9,7 @@ use lib.Dec.{leb, ltb}
 use Rattle.jobs.specs.Below.{some}
 use Rattle.jobs.specs.Table.{jobs, ready}
 use Rattle.jobs.specs.Refusals.{first, tableRefusals}
+use Rattle.jobs.specs.Orders.{filled}
 use Rattle.jobs.specs.declared.Check.the-variants.{Fine}
 use Rattle.frame.specs.Schedule.{foremost}
 use Rattle.frame.specs.Latest.{AtMost}
@@ -20,6 +21,11 @@ use Rattle.frame.specs.declared.events.Clock.{Clock}
 pub record Accepted (table pattern : List ℕ) : Type 0 where
   pub fine : first (tableRefusals table) ≡ Fine
   pub counts : AtMost (jobs table) 8 pattern
+
+-- The ready times of at most 64 jobs, by job number.
+pub record ReadyTimes (table times : List ℕ) : Type 0 where
+  pub few : jobs table ≤ 64
+  pub copied : times ≡ filled (λ x. x) (jobs table) (ready table)
 
 -- No job becomes ready at this time or later.
 abbrev pub never : ℕ

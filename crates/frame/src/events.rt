@@ -4,13 +4,15 @@ use jobs::Job;
 use jobs::first_of;
 ghost use mathlib.Core.Path.{_≡_};
 ghost use Prim.Native.Nat.{_<_, _≤_};
+ghost use mathlib.Core.Bool.{_&&_};
+ghost use lib.Dec.{leb, ltb};
 ghost use lib.ListN.{length};
 ghost use Rattle.jobs.specs.Table.{jobs};
 ghost use Rattle.jobs.specs.Refusals.{first};
 ghost use Rattle.jobs.specs.Orders.{filled, byUrgency};
 ghost use Rattle.frame.specs.Schedule.{need, finish};
 ghost use Rattle.frame.specs.Asks.{Scheduled, fill, scheduleRefusals, shortBuffer, wrongPattern, tooManyFailures};
-ghost use Rattle.frame.specs.Events.{Accepted, sooner, nextReady, stillWaits, Chosen, Fits, Ran, Allows, Passes};
+ghost use Rattle.frame.specs.Events.{Accepted, ReadyTimes, sooner, nextReady, stillWaits, Chosen, Fits, Ran, Allows, Passes};
 
 // No job becomes ready at this time or later.
 const NEVER: u32 = 10_000_000;
@@ -78,11 +80,11 @@ pub fn check_room(table: &[u32], room: usize) -> Check
 fn check(table: &[u32], pattern: &[u32], room: usize) -> Check
     ensures { λ r. ⌜ r ≡ first (scheduleRefusals (now (table .entry)) (now (pattern .entry)) room) ⌝ }
 {
-    let last = first_of(check_sum(pattern), check_room(table, room));
-    first_of(
-        jobs::check_table(table),
-        first_of(check_pattern(table, pattern), last),
-    )
+    let rows = jobs::check_table(table);
+    let counts = check_pattern(table, pattern);
+    let sum = check_sum(pattern);
+    let space = check_room(table, room);
+    first_of(rows, first_of(counts, first_of(sum, space)))
 }
 
 // The slots that a job needs: C + f × V.
@@ -123,40 +125,55 @@ fn sooner(next: u32, ready: u32, time: u32) -> u32
     ready
 }
 
+// The ready times, by job number, which every event reads.
+fn ready_times(table: &[u32]) -> [u32; 64]
+    requires { ⌜ jobs (now table) ≤ 64 ⌝ }
+    ensures { λ r. ⌜ ReadyTimes (now (table .entry)) r ⌝ }
+{
+    let n = jobs::jobs(table);
+    let mut times = [0u32; 64];
+    let mut j = 0;
+    while j < n {
+        times[j] = jobs::ready(table, Job(j));
+        j += 1;
+    }
+    times
+}
+
 // The next time at which a job becomes ready; NEVER if none does.
-fn next_ready(table: &[u32], time: u32) -> u32
+fn next_ready(table: &[u32], times: &[u32], time: u32) -> u32
+    requires { ⌜ ReadyTimes (now table) (now times) ⌝ }
     ensures { λ r. ⌜ r ≡ nextReady (now (table .entry)) time (jobs (now (table .entry))) ⌝ }
 {
     let n = jobs::jobs(table);
     let mut next = NEVER;
     let mut i = 0;
     while i < n {
-        next = sooner(next, jobs::ready(table, Job(i)), time);
+        next = sooner(next, times[i], time);
         i += 1;
     }
     next
 }
 
-// Whether a job waits: it is ready, and it has slots left.
-fn waits(table: &[u32], left: &[u32], job: Job, time: u32) -> bool
-    requires { ⌜ job .0 < length (now left) ⌝ }
-    ensures { λ r. ⌜ r ≡ stillWaits (now (table .entry)) (now (left .entry)) time (job .0) ⌝ }
+// Whether a job with this ready time and this much left waits.
+fn waits(ready: u32, left: u32, time: u32) -> bool
+    ensures { λ r. ⌜ r ≡ leb ready time && ltb 0 left ⌝ }
 {
-    let at = job.0;
-    jobs::ready(table, job) <= time && 0 < left[at]
+    ready <= time && 0 < left
 }
 
 // The most urgent waiting job: the first that waits of the jobs sorted by urgency.
-fn pick(table: &[u32], sorted: [Job; 64], left: &[u32], time: u32) -> Choice
-    requires { ⌜ sorted ≡ byUrgency (now table) .job ⌝ }
-    requires { ⌜ (jobs (now table) ≤ 64) × (length (now left) ≡ 64) ⌝ }
+fn pick(table: &[u32], sorted: [Job; 64], times: &[u32], left: &[u32], time: u32) -> Choice
+    requires { ⌜ ReadyTimes (now table) (now times) ⌝ }
+    requires { ⌜ (sorted ≡ byUrgency (now table) .job) × (length (now left) ≡ 64) ⌝ }
     ensures { λ r. ⌜ Chosen (now (table .entry)) (stillWaits (now (table .entry)) (now (left .entry)) time) r ⌝ }
 {
     let n = jobs::jobs(table);
     let mut rank = 0;
     while rank < n {
         let job = sorted[rank];
-        if waits(table, left, job, time) {
+        let at = job.0;
+        if waits(times[at], left[at], time) {
             return Choice::Runs(job);
         }
         rank += 1;
@@ -205,14 +222,15 @@ fn walk(table: &[u32], pattern: &[u32], finishes: &mut [u32])
 {
     let ranking = jobs::by_urgency(table);
     let sorted = ranking.job;
+    let times = ready_times(table);
     let mut left = needs(table, pattern);
     let mut clock = Clock {
         time: 0,
         going: true,
     };
     while clock.going {
-        let next = next_ready(table, clock.time);
-        let choice = pick(table, sorted, &left, clock.time);
+        let next = next_ready(table, &times, clock.time);
+        let choice = pick(table, sorted, &times, &left, clock.time);
         clock = event(choice, clock.time, next, &mut left, finishes);
     }
 }

@@ -1,11 +1,16 @@
--- Filling an array from the front: a loop starts with nothing held, each turn holds one value more. Assumes nothing.
-use Prim.Native.Nat.{ℕ, _+_, _≤_, _<_}
+-- Filling an array from the front: a loop starts with nothing held, each turn holds one value more. And what such a loop asks of its index.
+-- Assumes nothing.
+use Prim.Native.Nat.{ℕ, _+_, _-_, _*_, _≤_, _<_, _^_}
+use native.Mathlib.Nat.{lt-of-lt-of-le}
 use native.Mathlib.Numerals.{add-one}
 use native.Mathlib.Omega.{arith}
 use mathlib.Core.Path.{_≡_, _∙_, ap, sym}
 use mathlib.Core.List.{List}
 use lib.ListN.{length, getD, set, replicate, length-set, length-replicate, getD-replicate}
 use lib.Seq.{getD-set-same, getD-set-other}
+use mir.Syntax.{w64}
+use mir.Val.{Fits}
+use borrow.Author.Needs.{scaled-fits}
 use Rattle.jobs.proofs.Below.{below-suc}
 use Rattle.judge.specs.Rows.{Holds}
 
@@ -31,3 +36,21 @@ holds-to size array n m g e h = rw e at h
 
 pub holds-zeros : (size : ℕ) → Holds size (replicate size 0) size (λ i. 0)
 holds-zeros size = record { long = length-replicate size 0; each = λ i l. getD-replicate size i 0 0 l }
+
+-- ---- the index of a loop over an array of at most 64
+
+-- the offset of an element of `size` bytes, and the next index, fit a machine word
+pub offset-fits : {i n : ℕ} (size : ℕ) → i < n → n ≤ 64 → 64 * size < 2 ^ 63 → Fits w64 (i * size)
+offset-fits size l few small = scaled-fits _ 64 size (lt-of-lt-of-le l few) small
+
+pub next-fits : {i n : ℕ} → i < n → n ≤ 64 → Fits w64 (i + 1)
+next-fits l few = omega arith
+
+pub fewer-left : {i n : ℕ} → i < n → n - (i + 1) < n - i
+fewer-left l = omega arith
+
+pub one-below : {i n : ℕ} → i < n → i - 1 < n
+one-below l = omega arith
+
+pub less-one : {i : ℕ} → 0 < i → i - 1 < i
+less-one l = omega arith

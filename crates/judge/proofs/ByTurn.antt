@@ -1,36 +1,37 @@
 -- The walk over a good table's jobs by turn, as the code does it: what its arrays and its row of nine cells hold, that the cells fit, and
 -- that the last of them is the latest finish. Assumes nothing.
-use Prim.Native.Nat.{ℕ, zero, suc, _+_, _*_, _≤_, _<_, _^_, max, zero-le}
-use native.Mathlib.Nat.{suc-mul}
+use Prim.Native.Nat.{ℕ, zero, suc, _+_, _*_, _≤_, _<_, zero-le}
 use native.Mathlib.Numerals.{add-one}
 use native.Mathlib.Omega.{arith}
-use mathlib.Core.Path.{_≡_, refl, sym, ap, _∙_, subst}
-use mathlib.Core.Bool.{Bool, true, false, not, cond, _&&_, true≢false}
+use mathlib.Core.Path.{_≡_, sym, ap, _∙_, subst}
+use mathlib.Core.Bool.{true, false, not, cond, _&&_}
 use mathlib.Core.List.{List}
-use lib.ListN.{length, getD}
+use lib.ListN.{length, getD, set, length-set}
+use lib.Seq.{getD-set-same, getD-set-other}
 use lib.Dec.{leb, ltb, eqb}
 use borrow.Author.Tests.{le-leb, lt-leb, eqb-true, eqb-false}
 use borrow.Author.Count.{below-none, below-more}
-use Rattle.jobs.specs.Table.{jobs, ready, run, recovery}
-use Rattle.jobs.specs.Urgency.{urgent, position}
+use Rattle.jobs.specs.Table.{jobs, ready, recovery}
+use Rattle.jobs.specs.Urgency.{urgent}
 use Rattle.jobs.specs.Orders.{theJob, theRank, byUrgency, byReady}
 use Rattle.jobs.specs.declared.Job.{Job}
 use Rattle.jobs.specs.declared.Rank.{Rank}
 use Rattle.jobs.specs.declared.Ranking.{Ranking}
 use Rattle.jobs.specs.declared.Arrivals.{Arrivals}
-use Rattle.jobs.proofs.Below.{by-cases, least-is, least-none}
-use Rattle.jobs.proofs.Urgency.{StrictOrder, urgency-order}
-use Rattle.jobs.proofs.Orders.{Rearranges, position-below, position-rises, job-by-ready, rank-of-job}
+use Rattle.jobs.proofs.Below.{by-cases, below-suc, least-is, least-none}
+use Rattle.jobs.proofs.Urgency.{urgency-order}
+use Rattle.jobs.proofs.Orders.{position-below, position-rises, job-by-ready, rank-of-job}
 use Rattle.jobs.proofs.Refusals.{Good, good}
 use Rattle.frame.specs.Latest.{latest}
 use Rattle.frame.proofs.Work.{arrival, arrivals}
-use Rattle.frame.proofs.Finish.{atLeast, urgentAt}
-use Rattle.judge.specs.Rows.{enters, spread, turned, Holds, Fit, values}
+use Rattle.frame.proofs.Finish.{atLeast}
+use Rattle.judge.specs.Rows.{enters, turned, picks, picked, Holds, Fit, values}
 use Rattle.judge.specs.Turns.{jobAtTurn, rankOf, Turns}
 use Rattle.judge.proofs.Arrays.{holds-same}
-use Rattle.judge.proofs.Walk.{Walk, entered, row, stops, stop}
-use Rattle.judge.proofs.Rows.{spread-same, spread-bound}
-use Rattle.judge.proofs.Latest.{walkOf, latest-walks}
+use Rattle.judge.specs.Walk.{Walk, entered, row, stops, stop, faultsAt, walkOf}
+use Rattle.judge.specs.declared.trail.Picks.{Picks}
+use Rattle.judge.proofs.Rows.{spread-same, spread-bound, picks-same}
+use Rattle.judge.proofs.Latest.{latest-walks}
 
 -- ---- the orders that are handed over
 
@@ -113,6 +114,14 @@ pub record Walked (table : List ℕ) (n k own q : ℕ) (cells : List ℕ) : Type
   pub holds : Holds 9 cells 9 (row (walkOf table (jobAtTurn table own)) q)
   pub unstopped : (p : ℕ) → p < q → stops (walkOf table (jobAtTurn table own)) k p ≡ false
 
+-- The faults on the jobs of the first q turns are noted.
+pub record Noted (table : List ℕ) (own q : ℕ) (picks : List Picks) : Type 0 where
+  pub long : length picks ≡ 64
+  pub each : (p : ℕ) (d : Picks) → p < q → Holds 9 (getD picks p d .of) 9 (faultsAt (walkOf table (jobAtTurn table own)) p)
+
+pub noted-none : (table : List ℕ) (own : ℕ) (picks : List Picks) → length picks ≡ 64 → Noted table own 0 picks
+noted-none table own picks e = record { long = e; each = λ p d l. absurd (omega arith) }
+
 module _ (table : List ℕ) (n k : ℕ) (readies runs recoveries ranks : List ℕ) (t : Turns table n readies runs recoveries ranks) (small : k < 9) (own : ℕ) (l : own < n) where
   g : Good table
   g = good table (t .fine)
@@ -160,6 +169,17 @@ module _ (table : List ℕ) (n k : ℕ) (readies runs recoveries ranks : List �
         ap (λ x. enters x (W .ready q) (W .run q) (values cells u)) past-is
         ∙ ap (enters (ltb (W .own) q) (W .ready q) (W .run q)) (h .holds .each u (omega arith)))))
 
+    noted-is : (cells : List ℕ) → Walked table n k own q cells → (w : ℕ) → w < 9
+        → picked (leb (values ranks q) (values ranks own)) (ltb own q) (values readies q) (values runs q) (values recoveries q) (values cells) w ≡ faultsAt W q w
+    unfolding faultsAt
+    noted-is cells h w i =
+        rw (on-is, t .recovery-at .each q m, t .ready-at .each q m, t .run-at .each q m)
+        (ap (λ x. cond (W .on q) x 0)
+        (picks-same (W .recovery q) _ _ w
+        (λ u j.
+        ap (λ x. enters x (W .ready q) (W .run q) (values cells u)) past-is
+        ∙ ap (enters (ltb (W .own) q) (W .ready q) (W .run q)) (h .holds .each u (omega arith)))))
+
     pub made-fits : (cells : List ℕ) → Walked table n k own q cells → Fit (made cells)
     made-fits cells h =
         record {
@@ -174,22 +194,42 @@ module _ (table : List ℕ) (n k : ℕ) (readies runs recoveries ranks : List �
           unstopped = below-more _ _ (h .unstopped) s;
         }
 
+    pub stops-here : (cells : List ℕ) → Walked table n k own q cells → stops W k q ≡ true → q ≡ stop W k (jobs table)
+    unfolding stop
+    stops-here cells h s = sym (least-is (jobs table) (stops W k) q (omega (arith, t .all)) s (h .unstopped))
+
     -- where the walk stops, the last cell in use is the latest finish
     pub walked-stops : (cells : List ℕ) → Walked table n k own q cells → stops W k q ≡ true → values cells k ≡ latest table k judged
-    unfolding stop
     walked-stops cells h s =
-        h .holds .each k small
-        ∙ ap (λ p. row W p k) (sym (least-is (jobs table) (stops W k) q (omega (arith, t .all)) s (h .unstopped)))
-        ∙ sym (latest-walks table k judged g isJob)
+        h .holds .each k small ∙ ap (λ p. row W p k) (stops-here cells h s) ∙ sym (latest-walks table k judged g isJob)
+
+    -- the faults that the code notes
+    pub noted-more : (cells : List ℕ) (picks : List Picks) (next : Picks) → Walked table n k own q cells → Noted table own q picks
+        → Holds 9 (next .of) 9 (picked (leb (values ranks q) (values ranks own)) (ltb own q) (values readies q) (values runs q) (values recoveries q) (values cells))
+        → Noted table own (q + 1) (set picks q next)
+    noted-more cells picks next h o e =
+        record {
+          long = length-set picks q next ∙ o .long;
+          each =
+              λ p d i.
+              below-suc (rw add-one at i)
+              (λ j. subst (λ (x : Picks). Holds 9 (x .of) 9 (faultsAt W p)) (sym (getD-set-other picks q p next d (λ r. omega arith))) (o .each p d j))
+              (λ j.
+              subst (λ (r : ℕ). Holds 9 (getD (set picks q next) r d .of) 9 (faultsAt W r)) (sym j)
+              (subst (λ (x : Picks). Holds 9 (x .of) 9 (faultsAt W q)) (sym (getD-set-same picks q next d (omega (arith, o .long, t .few))))
+              (holds-same 9 (next .of) 9 _ (faultsAt W q) e (noted-is cells h))));
+        }
 
   pub walked-none : (cells : List ℕ) → Holds 9 cells 9 (λ w. 0) → Walked table n k own 0 cells
   unfolding row
   walked-none cells e = record { upTo = zero-le; holds = e; unstopped = below-none _ }
 
-  pub walked-done : (q : ℕ) (cells : List ℕ) → Walked table n k own q cells → n ≤ q → values cells k ≡ latest table k judged
+  pub stops-nowhere : (q : ℕ) (cells : List ℕ) → Walked table n k own q cells → n ≤ q → q ≡ stop W k (jobs table)
   unfolding stop
-  walked-done q cells h e =
+  stops-nowhere q cells h e =
       let end : q ≡ jobs table = omega (arith, h .upTo, t .all) in
-      h .holds .each k small
-      ∙ ap (λ p. row W p k) (end ∙ sym (least-none (jobs table) (stops W k) (λ p m. h .unstopped p (omega arith))))
-      ∙ sym (latest-walks table k judged g isJob)
+      end ∙ sym (least-none (jobs table) (stops W k) (λ p m. h .unstopped p (omega arith)))
+
+  pub walked-done : (q : ℕ) (cells : List ℕ) → Walked table n k own q cells → n ≤ q → values cells k ≡ latest table k judged
+  walked-done q cells h e =
+      h .holds .each k small ∙ ap (λ p. row W p k) (stops-nowhere q cells h e) ∙ sym (latest-walks table k judged g isJob)

@@ -1,16 +1,16 @@
 -- The latest finishes by turn and the verdict by rank, as the loops of the judge find them. Each job has a turn and a rank, so what holds
 -- at every turn or rank holds of every job. Assumes nothing.
-use Prim.Native.Nat.{ℕ, _+_, _≤_, _<_, zero-le}
+use Prim.Native.Nat.{ℕ, _+_, _≤_, _<_}
 use native.Mathlib.Numerals.{add-one}
 use native.Mathlib.Omega.{arith}
-use mathlib.Core.Path.{_≡_, refl, sym, ap, _∙_, subst}
-use mathlib.Core.Bool.{Bool, true, false, true≢false}
+use mathlib.Core.Path.{_≡_, sym, ap, _∙_, subst}
+use mathlib.Core.Bool.{true, false, true≢false}
 use mathlib.Core.List.{List}
 use lib.ListN.{length, getD, set, replicate, length-set, length-replicate}
 use lib.Seq.{getD-set-same, getD-set-other}
-use lib.Dec.{ltb, eqb}
-use borrow.Author.Tests.{ltb-true, ltb-false, lt-ltb, le-ltb, eqb-true, eqb-false}
-use borrow.Author.Count.{below-none, below-more}
+use lib.Dec.{eqb}
+use borrow.Author.Tests.{ltb-false, lt-ltb, le-ltb, eqb-true, eqb-false}
+use borrow.Author.Count.{below-more}
 use Rattle.jobs.specs.Table.{jobs, deadline}
 use Rattle.jobs.specs.Urgency.{urgent, position, jobAt}
 use Rattle.jobs.specs.Orders.{theJob, byUrgency}
@@ -18,12 +18,10 @@ use Rattle.jobs.specs.declared.Job.{Job}
 use Rattle.jobs.specs.declared.Ranking.{Ranking}
 use Rattle.jobs.proofs.Below.{by-cases, below-suc}
 use Rattle.jobs.proofs.Urgency.{urgency-order}
-use Rattle.jobs.proofs.Orders.{Rearranges, rearranges, position-below, position-rises, jobAt-below, jobAt-position, job-of-rank}
+use Rattle.jobs.proofs.Orders.{rearranges, position-rises, jobAt-below, job-of-rank}
 use Rattle.frame.specs.Latest.{latest, verdict}
-use Rattle.frame.specs.declared.Verdict.{Verdict}
 use Rattle.frame.specs.declared.Verdict.the-variants.{Sound, Miss}
 use Rattle.frame.proofs.Work.{arrivals}
-use Rattle.frame.proofs.Foremost.{Foremost}
 use Rattle.frame.proofs.Verdicts.{misses, misses-is, foremost-named, meets-sound}
 use Rattle.judge.specs.Rows.{Holds}
 use Rattle.judge.specs.Turns.{jobAtTurn}

@@ -2,40 +2,28 @@
 --
 -- By the finish law a job's finish under a pattern is where the queue of the jobs at least as urgent halts, and the walk's rows bound all
 -- of these (J1) and reach one (J2). Assumes nothing.
-use Prim.Native.Nat.{ℕ, zero, suc, _+_, _*_, _≤_, _<_}
-use native.Mathlib.Nat.{le-antisymm, le-trans}
+use Prim.Native.Nat.{ℕ, _≤_, _<_}
+use native.Mathlib.Nat.{le-antisymm}
 use native.Mathlib.Omega.{arith}
-use mathlib.Core.Path.{_≡_, refl, sym, ap, _∙_, subst}
-use mathlib.Core.Bool.{Bool, true, false, cond, _&&_}
-use mathlib.Core.List.{List, [], _∷_}
+use mathlib.Core.Path.{_≡_, sym, ap, _∙_}
+use mathlib.Core.Bool.{true}
+use mathlib.Core.List.{List}
 use lib.ListN.{length, getD}
 use Rattle.jobs.specs.Below.{total, least, listed}
-use Rattle.jobs.specs.Table.{jobs, ready, run, recovery}
-use Rattle.jobs.proofs.Below.{total-same, total-rearranged, length-listed, getD-listed, least-le, least-same}
-use Rattle.jobs.proofs.Orders.{Rearranges}
+use Rattle.jobs.specs.Table.{jobs, run}
+use Rattle.jobs.proofs.Below.{total-same, length-listed, getD-listed, least-le, least-same}
 use Rattle.jobs.proofs.Refusals.{Good}
 use Rattle.frame.specs.Schedule.{need, finish}
-use Rattle.frame.specs.Latest.{sum, AtMost, latest}
-use Rattle.frame.proofs.Queue.{ends, halts}
-use Rattle.frame.proofs.Work.{arrival, comesAt, turn, brings, arrivals, in-order-of-ready}
-use Rattle.frame.proofs.Finish.{atLeast, at-least-itself, urgentAt, runsEmpty, finish-law}
+use Rattle.frame.specs.Latest.{AtMost, latest}
+use Rattle.frame.proofs.Queue.{halts}
+use Rattle.frame.proofs.Work.{arrival, turn, arrivals, in-order-of-ready}
+use Rattle.frame.proofs.Finish.{at-least-itself, urgentAt, runsEmpty, finish-law}
 use Rattle.frame.proofs.Bounds.{sum-total}
-use Rattle.frame.proofs.Patterns.{Reaches, latest-bounds, latest-reached}
-use Rattle.judge.proofs.Walk.{Walk, row, stop, best}
-use Rattle.judge.proofs.Rows.{brought, endsWith, haltsWith, ends-same, best-few, walk-bounds, walk-reached}
+use Rattle.frame.proofs.Patterns.{latest-bounds, latest-reached}
+use Rattle.judge.specs.Walk.{Walk, row, stop, best, walkOf}
+use Rattle.judge.proofs.Rows.{endsWith, haltsWith, ends-same, best-few, walk-bounds, walk-reached}
 
 -- ---- the walk of a job
-
--- the walk over a table's jobs for the judged job
-abbrev pub walkOf : List ℕ → ℕ → Walk
-walkOf table job =
-    record {
-      ready = comesAt table;
-      run = λ q. run table (arrival table q);
-      recovery = λ q. recovery table (arrival table q);
-      on = urgentAt table job;
-      own = turn table job;
-    }
 
 module _ (table : List ℕ) (k job : ℕ) (good : Good table) (isJob : job < jobs table) where
   abbrev walk : Walk

@@ -1,7 +1,9 @@
 pub mod Arrays
-pub mod Walk
 pub mod Rows
 pub mod Latest
 pub mod ByTurn
+pub mod Unwinding
 pub mod Judging
 pub mod Theorems
+pub mod Answers
+pub mod Margins

@@ -7,14 +7,15 @@ use native.Mathlib.Omega.{arith}
 use mathlib.Core.Path.{_≡_, refl, sym, ap, _∙_, subst}
 use mathlib.Core.Bool.{Bool, true, false, cond, _&&_, true≢false}
 use mathlib.Core.List.{List}
+use lib.ListN.{length, getD, replicate}
 use lib.Dec.{leb, ltb, eqb}
 use borrow.Author.Tests.{ltb-true, ltb-false, lt-ltb, le-ltb, leb-true, leb-false, le-leb, lt-leb, eqb-true, eq-eqb, ne-eqb}
 use Rattle.jobs.specs.Below.{total, least}
 use Rattle.jobs.proofs.Below.{by-cases, and-left, and-right, below-suc, total-more, total-le, total-zero, total-add, least-le, least-is, least-holds, before-least, least-cases, least-none}
 use Rattle.frame.proofs.Queue.{ends, halts}
-use Rattle.judge.specs.Rows.{again, enters, spread, turned, picks, Holds, Fit, values}
-use Rattle.judge.proofs.Arrays.{holds-same}
-use Rattle.judge.proofs.Walk.{Walk, entered, row, stops, stop, faultsAt, unwind, best}
+use Rattle.judge.specs.Rows.{again, enters, spread, turned, picks, picked, Holds, Fit, values}
+use Rattle.judge.proofs.Arrays.{holds-same, holds-zeros}
+use Rattle.judge.specs.Walk.{Walk, entered, row, stops, stop, faultsAt, unwind, best}
 
 -- ---- one job's step
 
@@ -29,6 +30,9 @@ again-adds v (suc x) l = refl
 again-over : (v x : ℕ) → 0 < again v x → 0 < x
 again-over v zero l = l
 again-over v (suc x) l = omega arith
+
+one-less : (u : ℕ) → u ≡ suc u - 1
+one-less u = omega arith
 
 pub enters-over : (past : Bool) (r c e : ℕ) → past ≡ true → e ≤ r → enters past r c e ≡ 0
 enters-over past r c e t l = rw (t, le-leb e r l)
@@ -54,9 +58,10 @@ module _ (v : ℕ) (first : ℕ → ℕ) where
   unfolding spread
   spread-at zero l = absurd (omega arith)
   spread-at (suc w) l = ap (λ u. max (first (suc w)) (again v (spread v first u))) (one-less w)
-    where
-      one-less : (u : ℕ) → u ≡ suc u - 1
-      one-less u = omega arith
+
+  -- one fault more on the cell before is within the cell at w
+  pub spread-again : (w : ℕ) {limit : ℕ} → 0 < w → spread v first w < limit → again v (spread v first (w - 1)) < limit
+  spread-again w l h = omega (arith, spread-at w l)
 
   spread-grows : (w : ℕ) → spread v first w ≤ spread v first (suc w)
   unfolding spread
@@ -70,13 +75,25 @@ module _ (v : ℕ) (first : ℕ → ℕ) where
       let ih = spread-reaches w f l in
       rw (add-suc w f) (omega (arith, suc-mul f v, again-adds v (spread v first (w + f)) (omega arith)))
 
-  picks-within : (w : ℕ) → picks v first w ≤ w
+  pub picks-first : (cells : List ℕ) → length cells ≡ 9 → getD cells 0 0 ≡ 0 → Holds 9 cells 1 (picks v first)
+  unfolding picks
+  picks-first cells l z = record { long = l; each = λ w k. below-suc k (λ i. absurd (omega arith)) (λ i. rw i z) }
+
+  pub picks-at : (w : ℕ) → 0 < w → picks v first w ≡ cond (leb (again v (spread v first (w - 1))) (first w)) 0 (suc (picks v first (w - 1)))
+  unfolding picks
+  picks-at zero l = absurd (omega arith)
+  picks-at (suc w) l = ap (λ u. cond (leb (again v (spread v first u)) (first (suc w))) 0 (suc (picks v first u))) (one-less w)
+
+  pub picks-within : (w : ℕ) → picks v first w ≤ w
   unfolding picks
   picks-within zero = omega arith
   picks-within (suc w) =
       by-cases (leb (again v (spread v first w)) (first (suc w)))
       (λ e. rw e (omega arith))
       (λ e. rw e (omega (arith, picks-within w)))
+
+  pub picks-small : (w : ℕ) → w < 9 → picks v first w < 255
+  picks-small w l = omega (arith, picks-within w)
 
   -- an entry comes from one with as many fewer faults as this job has
   spread-picks : (w : ℕ) → spread v first w ≡ first (w - picks v first w) + picks v first w * v
@@ -113,6 +130,16 @@ spread-same v f g (suc w) h =
     ap (λ x. max x (again v (spread v f w))) (h (suc w) (omega arith))
     ∙ ap (λ x. max (g (suc w)) (again v x)) (spread-same v f g w (λ u l. h u (omega arith)))
 
+pub picks-same : (v : ℕ) (f g : ℕ → ℕ) (w : ℕ) → ((u : ℕ) → u ≤ w → f u ≡ g u) → picks v f w ≡ picks v g w
+unfolding picks
+picks-same v f g zero h = refl
+picks-same v f g (suc w) h =
+    rw (
+      h (suc w) (omega arith),
+      spread-same v f g w (λ u l. h u (omega arith)),
+      picks-same v f g w (λ u l. h u (omega arith)),
+    )
+
 -- each fault costs at most m
 pub spread-bound : (v : ℕ) (first : ℕ → ℕ) (b m : ℕ) → ((u : ℕ) → first u ≤ b + u * m) → v ≤ m → (w : ℕ) → spread v first w ≤ b + w * m
 unfolding spread
@@ -144,6 +171,14 @@ module _ (past : Bool) (r c v : ℕ) (before : List ℕ) where
       → Holds 9 next 9 (turned on past r c v (values before))
   turn-made on o entry next h e =
       rw o (holds-same 9 next 9 (spread v (values entry)) (spread v first) e (same-spread entry h))
+
+  pub turn-picked : (on : Bool) → on ≡ true → (entry of : List ℕ) → Holds 9 entry 9 first → Holds 9 of 9 (picks v (values entry))
+      → Holds 9 of 9 (picked on past r c v (values before))
+  turn-picked on o entry of h e =
+      rw o (holds-same 9 of 9 (picks v (values entry)) (picks v first) e (λ w l. picks-same v (values entry) first w (λ u m. h .each u (omega arith))))
+
+  pub turn-none : (on : Bool) → on ≡ false → Holds 9 (replicate 9 0) 9 (picked on past r c v (values before))
+  turn-none on o = rw o (holds-zeros 9)
 
   pub turn-left : (on : Bool) → on ≡ false → Holds 9 before 9 (values before) → Holds 9 before 9 (turned on past r c v (values before))
   turn-left on o h = rw o h
@@ -373,7 +408,7 @@ module _ (walk : Walk) where
   unfolding faultsAt
   faults-off p w o = rw o
 
-  faults-within : (p w : ℕ) → faultsAt walk p w ≤ w
+  pub faults-within : (p w : ℕ) → faultsAt walk p w ≤ w
   unfolding faultsAt
   faults-within p w =
       by-cases (walk .on p)

@@ -6,23 +6,26 @@
 use Prim.Native.Nat.{ℕ, zero, suc, _+_, _*_, _≤_, _<_, zero-le}
 use native.Mathlib.Nat.{le-trans, mul-le-mul-left, mul-le-mul-right, add-mul}
 use native.Mathlib.Omega.{arith}
-use mathlib.Core.Path.{_≡_, refl, sym, ap, _∙_}
+use mathlib.Core.Path.{_≡_, ap, _∙_}
 use mathlib.Core.Logic.{_↔_}
-use mathlib.Core.Bool.{Bool, true, false, cond}
+use mathlib.Core.Bool.{cond}
 use mathlib.Core.List.{List}
 use lib.ListN.{length, getD}
+use borrow.Author.Tests.{ltb-true}
 use Rattle.jobs.specs.Below.{total, greatest}
+use Rattle.jobs.specs.declared.Job.{Job}
 use Rattle.jobs.specs.Table.{jobs, ready, run, deadline, recovery}
 use Rattle.jobs.proofs.Below.{by-cases, total-le, total-add, greatest-bounds}
 use Rattle.jobs.proofs.Refusals.{Good}
 use Rattle.frame.specs.Schedule.{need, finish}
 use Rattle.frame.specs.Latest.{sum, AtMost, latest, verdict}
-use Rattle.frame.specs.declared.Verdict.{Verdict}
-use Rattle.frame.specs.declared.Verdict.the-variants.{Sound, Miss}
+use Rattle.frame.specs.declared.Verdict.the-variants.{Sound}
 use Rattle.frame.proofs.Finish.{atLeast, workload, finish-bound}
 use Rattle.frame.proofs.Bounds.{sum-total}
 use Rattle.frame.proofs.Patterns.{Reaches, latest-bounds, latest-reached}
-use Rattle.frame.proofs.Verdicts.{sound-meets, meets-sound}
+use Rattle.frame.proofs.Foremost.{Foremost}
+use Rattle.frame.proofs.Verdicts.{misses-is, miss-names, sound-meets, meets-sound}
+use Rattle.judge.specs.Asks.{Handed}
 
 -- ---- demand 2
 
@@ -39,7 +42,20 @@ sound-exactly table k = (
       (λ job l. let r = latest-reached table k job in omega (arith, r .reaches, all job l (r .pattern) (r .atMost)))),
 )
 
+-- On a miss the pattern that was handed out makes the named job finish after its deadline.
+pub miss-shown : (table : List ℕ) (k : ℕ) (job : Job) (time : ℕ) (before after : List ℕ) → verdict table k ≡ Miss job time → (h : Handed table k (job .0) before after)
+    → deadline table (job .0) < finish table (h .pattern) (job .0)
+miss-shown table k job time before after e h =
+    let late = ltb-true _ _ (sym (misses-is table k (job .0)) ∙ miss-names table k (job .0) time e .most .has) in
+    rw (h .reaches) late
+
 -- ---- demand 3
+
+-- The latest finish is the greatest finish over all patterns of at most k faults: none is later, and one is as late.
+pub latest-exactly : (table : List ℕ) (k job : ℕ)
+    → ((pattern : List ℕ) → AtMost (jobs table) k pattern → finish table pattern job ≤ latest table k job)
+    × Reaches (jobs table) k (λ pattern. finish table pattern job) (latest table k job)
+latest-exactly table k job = (latest-bounds table k job, latest-reached table k job)
 
 module _ (table : List ℕ) (job : ℕ) where
   -- the runs of all jobs at least as urgent, and the longest recovery among those

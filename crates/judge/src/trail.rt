@@ -13,7 +13,8 @@ ghost use lib.Dec.{leb};
 ghost use Rattle.jobs.specs.Table.{jobs};
 ghost use Rattle.jobs.specs.Orders.{byReady};
 ghost use Rattle.judge.specs.Rows.{enters, spread, picks, turned, Holds, Fit, values, picked};
-ghost use Rattle.judge.specs.Turns.{Turns};
+ghost use Rattle.judge.specs.Turns.{jobAtTurn, Turns};
+ghost use Rattle.judge.specs.Walk.{TrailOf, Unwound};
 
 // For each count of faults, how many of them are on the job.
 pub(crate) struct Picks {
@@ -66,4 +67,72 @@ fn picked(row: [u32; 9], on: bool, past: bool, ready: u32, run: u32, recovery: u
         };
     }
     Picks { of: [0; 9] }
+}
+
+// The walk of the job at turn `own`, with its notes.
+pub(crate) fn trail_of<'a>(
+    table: &'a [u32],
+    ready: &'a [u32; 64],
+    run: &'a [u32; 64],
+    recovery: &'a [u32; 64],
+    rank: &'a [u32; 64],
+    n: usize,
+    k: usize,
+    own: usize,
+) -> Trail
+    requires { ⌜ Turns (now table) n (now ready) (now run) (now recovery) (now rank) ⌝ }
+    requires { ⌜ k < 9 ⌝ }
+    requires { ⌜ own < n ⌝ }
+    ensures { λ r. ⌜ TrailOf (now (table .entry)) k (jobAtTurn (now (table .entry)) own) r ⌝ }
+{
+    let mine = rank[own];
+    let mut row = [0; 9];
+    let mut picks = [Picks { of: [0; 9] }; 64];
+    let mut q = 0;
+    while q < n {
+        let on = rank[q] <= mine;
+        let past = own < q;
+        if ends_before(past, on, row[k], ready[q]) {
+            return Trail {
+                picks: picks,
+                stop: q,
+            };
+        }
+        picks[q] = picked(row, on, past, ready[q], run[q], recovery[q]);
+        row = turned(row, on, past, ready[q], run[q], recovery[q]);
+        q += 1;
+    }
+    Trail {
+        picks: picks,
+        stop: q,
+    }
+}
+
+// The faults of each job, by job number: the notes unwound from where the walk stops.
+pub(crate) fn unwound(
+    table: &[u32],
+    order: Arrivals,
+    trail: Trail,
+    n: usize,
+    k: usize,
+    own: usize,
+) -> [u32; 64]
+    requires { ⌜ order ≡ byReady (now table) ⌝ }
+    requires { ⌜ TrailOf (now table) k (jobAtTurn (now table) own) trail ⌝ }
+    requires { ⌜ (n ≡ jobs (now table)) × (n ≤ 64) × (k < 9) ⌝ }
+    ensures { λ r. ⌜ Unwound (now (table .entry)) k (jobAtTurn (now (table .entry)) own) r ⌝ }
+{
+    let mut counts = [0; 64];
+    let mut w = k;
+    let mut p = trail.stop;
+    while 0 < p {
+        p -= 1;
+        let picks = trail.picks[p];
+        let faults = picks.of[w];
+        let job = order.job[p];
+        let at = job.0;
+        counts[at] = faults as u32;
+        w -= faults as usize;
+    }
+    counts
 }

@@ -5,6 +5,12 @@ use Rattle.frame.proofs.Asks.{schedule-refusals}
 use Rattle.frame.proofs.events.check.Statement.{statement}
 use Rattle.frame.proofs.events.check.Tie as tie
 
+check-table-requires : tie.Need-check-table-requires
+check-table-requires c κs = tt
+
+check-pattern-requires : tie.Need-check-pattern-requires
+check-pattern-requires c κs = tt
+
 check-sum-requires : tie.Need-check-sum-requires
 check-sum-requires c κs = tt
 
@@ -13,12 +19,6 @@ check-room-requires c κs = tt
 
 first-of-requires : tie.Need-first-of-requires
 first-of-requires c κs = tt
-
-check-table-requires : tie.Need-check-table-requires
-check-table-requires c κs = tt
-
-check-pattern-requires : tie.Need-check-pattern-requires
-check-pattern-requires c κs = tt
 
 first-of-requires-2 : tie.Need-first-of-requires-2
 first-of-requires-2 c κs = tt
@@ -32,11 +32,11 @@ returns c =
     rw (
       c .first-of3 .ensures,
       c .before .first-of2 .ensures,
-      c .before .before .before .before .first-of .ensures,
-      c .before .before .before .check-table .ensures,
-      c .before .before .check-pattern .ensures,
-      c .before .before .before .before .before .before .check-sum .ensures,
-      c .before .before .before .before .before .check-room .ensures,
+      c .before .before .first-of .ensures,
+      c .before .before .before .before .before .before .check-table .ensures,
+      c .before .before .before .before .before .check-pattern .ensures,
+      c .before .before .before .before .check-sum .ensures,
+      c .before .before .before .check-room .ensures,
     )
     (sym (schedule-refusals (a .table .now) (a .pattern .now) (a .room)))
 
@@ -44,11 +44,11 @@ pub check-spec : {M : Type 1} → statement M
 check-spec =
     tie.close
     (tie.spec
+    check-table-requires
+    check-pattern-requires
     check-sum-requires
     check-room-requires
     first-of-requires
-    check-table-requires
-    check-pattern-requires
     first-of-requires-2
     first-of-requires-3
     returns)

@@ -2,9 +2,8 @@
 -- Assumes nothing.
 use Prim.Native.Nat.{_*_, _≤_}
 use native.Mathlib.Omega.{arith}
-use mathlib.Core.Path.{ap}
 use lib.ListN.{getD}
-use Rattle.jobs.proofs.Refusals.{Good, good}
+use Rattle.jobs.proofs.Refusals.{good}
 use Rattle.frame.specs.Schedule.{need}
 use Rattle.frame.proofs.Bounds.{recovery-at-most}
 use Rattle.frame.proofs.events.need_of.Statement.{statement}
@@ -23,12 +22,15 @@ recovery-requires : tie.Need-recovery-requires
 recovery-requires c κs = tt
 
 -- the recoveries of this job
-recoveries : (c : tie.After-recovery) → getD (c .before .before .before .before .before .args .pattern .now) (c .before .before .before .before .before .args .job .0) 0 * c .recovery .result ≤ 800000
+recoveries : (c : tie.After-recovery)
+    → let a = c .before .before .before .before .before .args in
+    getD (a .pattern .now) (a .job .0) 0 * c .recovery .result ≤ 800000
 recoveries c =
     let s = c .before .before .before .before .before in
     let a = s .args in
+    let good-table = good (a .table .now) (s .pre .0 .fine) in
     rw (c .recovery .ensures)
-    (recovery-at-most (a .table .now) (a .pattern .now) (good (a .table .now) (s .pre .0 .fine)) 8 (omega arith) (s .pre .0 .counts) (a .job .0) (s .pre .1))
+    (recovery-at-most (a .table .now) (a .pattern .now) good-table 8 (omega arith) (s .pre .0 .counts) (a .job .0) (s .pre .1))
 
 mul-result-2 : tie.Need-mul-result-2
 mul-result-2 c = omega (arith, recoveries c)

@@ -5,7 +5,7 @@ use mathlib.Core.Path.{_≡_, refl}
 use native.Mathlib.Omega.{arith}
 use Rattle.jobs.specs.Table.{jobs}
 use Rattle.jobs.proofs.Placed.{Placed, placed-none, placed-more, placed-all}
-use Rattle.jobs.proofs.Refusals.{Good, good}
+use Rattle.jobs.proofs.Refusals.{good}
 use Rattle.frame.specs.Schedule.{need}
 use Rattle.frame.proofs.events.needs.Statement.{statement}
 use Rattle.frame.proofs.events.needs.Tie as tie

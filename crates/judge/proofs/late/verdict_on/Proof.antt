@@ -1,16 +1,15 @@
 -- `judge::late::verdict_on` meets its contract: the jobs of the first r ranks meet their deadlines, so the first that does not is the most
 -- urgent. Assumes nothing.
-use borrow.Author.Needs.{needs}
+use lib.Dec.{lit<}
+use native.Mathlib.Numerals.{add-one-le}
+use native.Mathlib.Nat.{lt-of-lt-of-le}
 use borrow.Author.Count.{below-none}
-use native.Mathlib.Omega.{arith}
-use Prim.Native.Nat.{ℕ, _-_, _≤_}
-use mathlib.Core.Path.{_≡_, refl, sym, _∙_, ap}
+use Prim.Native.Nat.{_-_, _≤_, zero-le}
+use mathlib.Core.Path.{sym}
+use Rattle.judge.proofs.Arrays.{offset-fits, next-fits, fewer-left}
 use Rattle.judge.proofs.Judging.{MetTo, named-here, met-here, met-all, rank-job, rank-job-below}
 use Rattle.judge.proofs.late.verdict_on.Statement.{statement}
 use Rattle.judge.proofs.late.verdict_on.Tie as tie
-use Rattle.judge.proofs.late.verdict_on.Reads as reads
-use Rattle.judge.proofs.late.verdict_on.Lts as lts
-use Rattle.jobs.proofs.deadline.Reads as deadline-reads
 
 abbrev Inv-loop : tie.InvT-loop
 Inv-loop table late n k ranking r₀ r = (r ≤ n) × MetTo table k r
@@ -19,27 +18,27 @@ abbrev μ-loop : tie.MeasureT-loop
 μ-loop table late n k ranking r₀ r = n - r
 
 loop-holds : tie.Need-loop-holds Inv-loop μ-loop
-loop-holds c = (omega arith, below-none _)
+loop-holds c = (zero-le, below-none _)
 
 mul-job : tie.Need-mul-job Inv-loop μ-loop
-mul-job c = search needs
+mul-job c = offset-fits 8 (c .loop-test .taken) (c .before .before .before .pre .1 .1 .1) (lit< tt)
 
 element-copy-out-job : tie.Need-element-copy-out-job Inv-loop μ-loop
-element-copy-out-job c = search needs
+element-copy-out-job c = lt-of-lt-of-le (c .loop-test .taken) (c .before .before .before .pre .1 .1 .1)
 
 mul-end : tie.Need-mul-end Inv-loop μ-loop
 mul-end c =
     let at = c .before .before in
     let start = at .before .before in
     let a = start .args in
-    omega (arith, rank-job-below (a .table .now) (a .k) (a .t2) (a .n) (at .loop .r) (start .pre .0) (start .pre .1 .1 .0) (start .pre .1 .1 .1) (omega arith), start .pre .1 .1 .1)
+    offset-fits 4 (rank-job-below (a .table .now) (a .k) (a .t2) (a .n) (at .loop .r) (start .pre .0) (start .pre .1 .1 .0) (start .pre .1 .1 .1) (c .before .loop-test .taken)) (start .pre .1 .1 .1) (lit< tt)
 
 element-copy-out-end : tie.Need-element-copy-out-end Inv-loop μ-loop
 element-copy-out-end c =
     let at = c .before .before in
     let start = at .before .before in
     let a = start .args in
-    omega (arith, rank-job-below (a .table .now) (a .k) (a .t2) (a .n) (at .loop .r) (start .pre .0) (start .pre .1 .1 .0) (start .pre .1 .1 .1) (omega arith), start .pre .1 .1 .1)
+    lt-of-lt-of-le (rank-job-below (a .table .now) (a .k) (a .t2) (a .n) (at .loop .r) (start .pre .0) (start .pre .1 .1 .0) (start .pre .1 .1 .1) (c .before .loop-test .taken)) (start .pre .1 .1 .1)
 
 deadline-requires : tie.Need-deadline-requires Inv-loop μ-loop
 deadline-requires c κs = tt
@@ -49,27 +48,27 @@ returns c =
     let at = c .before .before .before .before .before in
     let start = at .before .before in
     let a = start .args in
-    named-here (a .table .now) (a .k) (at .loop .r) _ _ (c .before .deadline .result) (omega (arith, start .pre .1 .1 .0)) (at .loop .inv .1)
-    (rank-job (a .table .now) (a .k) (a .t2) (a .n) (at .loop .r) (start .pre .0) (start .pre .1 .1 .0) (start .pre .1 .1 .1) (omega arith))
-    (start .pre .1 .0 .each _ (rank-job-below (a .table .now) (a .k) (a .t2) (a .n) (at .loop .r) (start .pre .0) (start .pre .1 .1 .0) (start .pre .1 .1 .1) (omega arith)))
+    named-here (a .table .now) (a .k) (at .loop .r) _ _ (c .before .deadline .result) (rw (start .pre .1 .1 .0) at (c .before .before .before .before .loop-test .taken)) (at .loop .inv .1)
+    (rank-job (a .table .now) (a .k) (a .t2) (a .n) (at .loop .r) (start .pre .0) (start .pre .1 .1 .0) (start .pre .1 .1 .1) (c .before .before .before .before .loop-test .taken))
+    (start .pre .1 .0 .each _ (rank-job-below (a .table .now) (a .k) (a .t2) (a .n) (at .loop .r) (start .pre .0) (start .pre .1 .1 .0) (start .pre .1 .1 .1) (c .before .before .before .before .loop-test .taken)))
     (c .before .deadline .ensures)
     (c .if1 .taken)
 
 add-r : tie.Need-add-r Inv-loop μ-loop
-add-r c = search needs
+add-r c = next-fits (c .before .before .before .before .loop-test .taken) (c .before .before .before .before .before .before .before .pre .1 .1 .1)
 
 loop-less : tie.Need-loop-less Inv-loop μ-loop
-loop-less c = search needs
+loop-less c = fewer-left (c .before .before .before .before .loop-test .taken)
 
 loop-again : tie.Need-loop-again Inv-loop μ-loop
 loop-again c =
     let at = c .before .before .before .before .before in
     let start = at .before .before in
     let a = start .args in (
-      omega arith,
-      met-here (a .table .now) (a .k) (at .loop .r) _ _ (c .before .deadline .result) (omega (arith, start .pre .1 .1 .0)) (at .loop .inv .1)
-          (rank-job (a .table .now) (a .k) (a .t2) (a .n) (at .loop .r) (start .pre .0) (start .pre .1 .1 .0) (start .pre .1 .1 .1) (omega arith))
-          (start .pre .1 .0 .each _ (rank-job-below (a .table .now) (a .k) (a .t2) (a .n) (at .loop .r) (start .pre .0) (start .pre .1 .1 .0) (start .pre .1 .1 .1) (omega arith)))
+      add-one-le (c .before .before .before .before .loop-test .taken),
+      met-here (a .table .now) (a .k) (at .loop .r) _ _ (c .before .deadline .result) (rw (start .pre .1 .1 .0) at (c .before .before .before .before .loop-test .taken)) (at .loop .inv .1)
+          (rank-job (a .table .now) (a .k) (a .t2) (a .n) (at .loop .r) (start .pre .0) (start .pre .1 .1 .0) (start .pre .1 .1 .1) (c .before .before .before .before .loop-test .taken))
+          (start .pre .1 .0 .each _ (rank-job-below (a .table .now) (a .k) (a .t2) (a .n) (at .loop .r) (start .pre .0) (start .pre .1 .1 .0) (start .pre .1 .1 .1) (c .before .before .before .before .loop-test .taken)))
           (c .before .deadline .ensures)
           (c .if1 .left),
     )
@@ -78,7 +77,7 @@ returns-2 : tie.Need-returns-2 Inv-loop μ-loop
 returns-2 c =
     let start = c .before .before .before in
     let a = start .args in
-    sym (met-all (a .table .now) (a .k) (a .n) (c .before .loop .r) (start .pre .1 .1 .0) (omega arith) (c .before .loop .inv .1))
+    sym (met-all (a .table .now) (a .k) (a .n) (c .before .loop .r) (start .pre .1 .1 .0) (c .loop-test .left) (c .before .loop .inv .1))
 
 pub verdict-on-spec : {M : Type 1} → statement M
 verdict-on-spec =

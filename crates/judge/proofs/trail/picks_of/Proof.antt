@@ -1,75 +1,91 @@
+-- `judge::trail::picks_of` meets its contract: after w turns the first w cells hold the picks, each made from the one before it.
+-- Assumes nothing.
+use native.Mathlib.Numerals.{add-one-le}
+use native.Mathlib.Nat.{le-antisymm, le-add-left}
+use Prim.Native.Nat.{ℕ, suc, _-_, _≤_}
+use mathlib.Core.Path.{refl, _∙_, sym, ap}
+use mathlib.Core.Bool.{cond}
+use lib.Dec.{leb, lit<, lit≤}
+use lib.ListN.{replicate}
+use Rattle.judge.specs.Rows.{again, spread, picks, values, Holds}
+use Rattle.judge.proofs.Rows.{picks-first, picks-at, spread-again, picks-small}
+use Rattle.judge.proofs.Arrays.{holds-more, holds-to, offset-fits, next-fits, fewer-left, one-below, less-one}
 use Rattle.judge.proofs.trail.picks_of.Statement.{statement}
 use Rattle.judge.proofs.trail.picks_of.Tie as tie
-use Rattle.judge.proofs.trail.picks_of.Reads as reads
-use Rattle.judge.proofs.trail.picks_of.Lts as lts
-use Rattle.judge.proofs.row.once_more.Reads as once-more-reads
-use Rattle.judge.proofs.trail.pick.Reads as pick-reads
 
 abbrev Inv-loop : tie.InvT-loop
-Inv-loop recovery first next of₀ w₀ of w = ?
+Inv-loop recovery first next of₀ w₀ of w = (1 ≤ w) × (w ≤ 9) × Holds 9 of w (picks recovery (values first))
 
 abbrev μ-loop : tie.MeasureT-loop
-μ-loop recovery first next of₀ w₀ of w = ?
+μ-loop recovery first next of₀ w₀ of w = 9 - w
 
--- src/trail.rt:48:5
 loop-holds : tie.Need-loop-holds Inv-loop μ-loop
-loop-holds c = ?
+loop-holds c =
+    (lit≤ tt, lit≤ tt, picks-first (c .args .recovery) (values (c .args .t1)) (replicate 9 0) refl refl)
 
--- src/trail.rt:49:47
 sub-once-more : tie.Need-sub-once-more Inv-loop μ-loop
-sub-once-more c = ?
+sub-once-more c = c .before .loop .inv .0
 
--- src/trail.rt:49:42
 mul-once-more : tie.Need-mul-once-more Inv-loop μ-loop
-mul-once-more c = ?
+mul-once-more c = offset-fits 4 (one-below (c .loop-test .taken)) (lit≤ tt) (lit< tt)
 
--- src/trail.rt:49:42
 array-read-once-more : tie.Need-array-read-once-more Inv-loop μ-loop
-array-read-once-more c = ?
+array-read-once-more c = one-below (c .loop-test .taken)
 
--- src/trail.rt:49:22
 once-more-requires : tie.Need-once-more-requires Inv-loop μ-loop
-once-more-requires c κs = ?
+once-more-requires c κs =
+    let start = c .before .before in
+    let a = start .args in
+    let w = c .before .loop .w in
+    rw (start .pre .1 .each (w - 1) (one-below (c .loop-test .taken)))
+    (spread-again (a .recovery) (values (a .t1)) w (c .before .loop .inv .0) (start .pre .0 .fits w (c .loop-test .taken)))
 
--- src/trail.rt:49:56
 mul-pick : tie.Need-mul-pick Inv-loop μ-loop
-mul-pick c = ?
+mul-pick c = offset-fits 4 (c .before .loop-test .taken) (lit≤ tt) (lit< tt)
 
--- src/trail.rt:49:56
 array-read-pick : tie.Need-array-read-pick Inv-loop μ-loop
-array-read-pick c = ?
+array-read-pick c = c .before .loop-test .taken
 
--- src/trail.rt:49:69
 sub-pick : tie.Need-sub-pick Inv-loop μ-loop
-sub-pick c = ?
+sub-pick c = c .before .before .loop .inv .0
 
--- src/trail.rt:49:66
 array-read-pick-2 : tie.Need-array-read-pick-2 Inv-loop μ-loop
-array-read-pick-2 c = ?
+array-read-pick-2 c = one-below (c .before .loop-test .taken)
 
--- src/trail.rt:49:17
 pick-requires : tie.Need-pick-requires Inv-loop μ-loop
-pick-requires c κs = ?
+pick-requires c κs =
+    let at = c .before .before in
+    let a = at .before .args in
+    let w = at .loop .w in
+    rw (at .loop .inv .2 .each (w - 1) (less-one (at .loop .inv .0))) (picks-small (a .recovery) (values (a .t1)) (w - 1) (one-below (c .before .loop-test .taken)))
 
--- src/trail.rt:49:9
 array-write-of : tie.Need-array-write-of Inv-loop μ-loop
-array-write-of c = ?
+array-write-of c = c .before .before .loop-test .taken
 
--- src/trail.rt:50:9
 add-w : tie.Need-add-w Inv-loop μ-loop
-add-w c = ?
+add-w c = next-fits (c .before .before .loop-test .taken) (lit≤ tt)
 
--- src/trail.rt:48:5
 loop-less : tie.Need-loop-less Inv-loop μ-loop
-loop-less c = ?
+loop-less c = fewer-left (c .before .before .loop-test .taken)
 
--- src/trail.rt:48:5
 loop-again : tie.Need-loop-again Inv-loop μ-loop
-loop-again c = ?
+loop-again c =
+    let at = c .before .before .before in
+    let start = at .before in
+    let a = start .args in
+    let w = at .loop .w in
+    let first = values (a .t1) in (
+      le-add-left 1 w,
+      add-one-le (c .before .before .loop-test .taken),
+      holds-more 9 (at .loop .of) w (picks (a .recovery) first) (c .pick .result) (c .before .before .loop-test .taken) (at .loop .inv .2)
+          (c .pick .ensures
+          ∙ ap (λ (x : ℕ). cond (leb x (first w)) 0 (suc (values (at .loop .of) (w - 1)))) (c .before .once-more .ensures ∙ ap (again (a .recovery)) (start .pre .1 .each (w - 1) (one-below (c .before .before .loop-test .taken))))
+          ∙ ap (λ (x : ℕ). cond (leb (again (a .recovery) (spread (a .recovery) first (w - 1))) (first w)) 0 (suc x)) (at .loop .inv .2 .each (w - 1) (less-one (at .loop .inv .0)))
+          ∙ sym (picks-at (a .recovery) first w (at .loop .inv .0))),
+    )
 
--- src/trail.rt:41:1
 returns : tie.Need-returns Inv-loop μ-loop
-returns c = ?
+returns c = holds-to 9 (c .before .loop .of) (c .before .loop .w) 9 _ (le-antisymm (c .before .loop .inv .1) (c .loop-test .left)) (c .before .loop .inv .2)
 
 pub picks-of-spec : {M : Type 1} → statement M
 picks-of-spec =

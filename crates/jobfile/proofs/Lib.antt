@@ -1,0 +1,5 @@
+pub mod Bytes
+pub mod Over
+pub mod Records
+pub mod Walk
+pub mod Filling

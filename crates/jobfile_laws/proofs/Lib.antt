@@ -1,0 +1,6 @@
+pub mod Digits
+pub mod Ranges
+pub mod RoundTrip
+pub mod SameBytes
+pub mod Promises
+pub mod Cases
