@@ -32,13 +32,13 @@ faultsAt table pattern p = getD pattern (jobAtPlace table p) 0
 
 module _ (table pattern : List ℕ) (good : Good table) where
   -- what a job adds at its finish, and what the jobs that finish at t add
-  abbrev adds : ℕ → ℕ
+  abbrev pub adds : ℕ → ℕ
   adds job = getD pattern job 0 * recovery table job
 
-  abbrev grows : ℕ → ℕ
+  abbrev pub grows : ℕ → ℕ
   grows t = total (jobs table) (λ job. cond (eqb (faultFree table job) t) (adds job) 0)
 
-  extra-next : (t : ℕ) → extra table pattern (suc t) ≡ extra table pattern t - cond (idle table (noFaults table) t) 1 0 + grows (suc t)
+  pub extra-next : (t : ℕ) → extra table pattern (suc t) ≡ extra table pattern t - cond (idle table (noFaults table) t) 1 0 + grows (suc t)
   unfolding extra
   extra-next t = refl
 

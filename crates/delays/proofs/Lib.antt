@@ -3,6 +3,8 @@ pub mod Rows
 pub mod Places
 pub mod Extra
 pub mod Formula
+pub mod Asked
 pub mod Promise
 pub mod Walk
+pub mod Ended
 pub mod Cases

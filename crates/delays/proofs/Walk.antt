@@ -27,7 +27,7 @@ use Rattle.delays.specs.Places.{placeOf, jobAtPlace, lastFinish, freeAt,
 use Rattle.delays.proofs.Arrays.{holds-same, holds-zeros}
 use Rattle.delays.proofs.Rows.{next-same, rows-fit}
 use Rattle.delays.proofs.Places.{places}
-use Rattle.delays.proofs.Promise.{finishes-accepted}
+use Rattle.delays.proofs.Asked.{finishes-accepted}
 use Rattle.delays.proofs.Formula.{delay-is-formula}
 
 -- the job that is handed over at a place

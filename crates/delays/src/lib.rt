@@ -1,9 +1,9 @@
 // The ask delays: the most extra work just after each job's fault-free finish, over all patterns of at most k faults.
 //
-// It is computed by formula (6) of Liberato, Melhem and Mossé (IEEE Transactions on Computers, 2000): row by row over the jobs in the order of
-// their fault-free finishes. The paper gives the formula for exactly w faults of the j most urgent jobs; here it is for at most w, which is the
-// same number since a fault never takes work away, and for the whole table. The paper argues that it is the greatest over all patterns; here that
-// is proved of the schedule's own slots. Its first zero is not the latest finish of a job, so nothing is judged by it.
+// It is computed by formula (6) of Liberato, Melhem and Mossé (IEEE Transactions on Computers, 2000), row by row over the jobs in the order of
+// their fault-free finishes; the formula's first two cases are a first row of zeros. The paper takes the most over patterns of exactly w faults and
+// argues that the formula gives it. Here it is the most over patterns of at most w faults, as 01 has it, and that the formula gives it is proved of
+// the schedule's slots. The jobs are all those of the table. The paper goes on to judge by the delays' first zero; 01 does not (its case 5).
 mod finishing;
 mod row;
 

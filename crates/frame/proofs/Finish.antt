@@ -173,7 +173,7 @@ module _ (table pattern : List ℕ) (job : ℕ) (isJob : job < jobs table) where
               (λ i l. by-cases (atLeast table job i) (λ e. rw e (omega arith)) (λ e. rw e (omega arith))),
         )
 
-    work-empties : FirstZero (work table pattern (atLeast table job)) (ready table job) (runsEmpty table pattern job)
+    pub work-empties : FirstZero (work table pattern (atLeast table job)) (ready table job) (runsEmpty table pattern job)
     unfolding runsEmpty
     work-empties =
         let queue = queue-empties (comesAt table) (brings table pattern) (urgentAt table job) (jobs table) (comes-rising table) p own-on turn-below (omega (arith, same-need)) in

@@ -19,7 +19,7 @@ Inv-loop table k delays₀ n finishes order row₀ last₀ p₀ delays row last 
 abbrev μ-loop : tie.MeasureT-loop
 μ-loop table k delays₀ n finishes order row₀ last₀ p₀ delays row last p = n - p
 
--- ---- in a turn
+-- ---- what a turn knows
 
 few : (c : tie.At-loop Inv-loop μ-loop) → jobs (c .before .before .before .before .before .before .before .args .table .now) ≤ 64
 few c = c .before .before .before .fault-free .ensures .few
@@ -48,6 +48,8 @@ this-finish : (c : tie.In-loop Inv-loop μ-loop)
     ≡ faultFree (c .before .before .before .before .before .before .before .before .args .table .now) (getD (c .before .before .by-finish .result) (c .before .loop .p) (theJob 0) .0)
 this-finish c = c .before .before .before .before .fault-free .ensures .holds .each _ (job-below c)
 
+-- ---- before the first turn
+
 jobs-requires : tie.Need-jobs-requires Inv-loop μ-loop
 jobs-requires c κs = tt
 
@@ -65,6 +67,8 @@ loop-holds c =
     let start = c .before .before .before .before .before .before in
     let a = start .args in
     walked-none (a .table .now) (a .k) (a .delays .now) (start .pre .0) (start .pre .1 .0) (start .pre .1 .1)
+
+-- ---- one turn
 
 mul-job : tie.Need-mul-job Inv-loop μ-loop
 mul-job c = omega (arith, below c, few (c .before))
@@ -124,6 +128,8 @@ loop-again c =
     let a = start .args in
     let l = at .loop in
     walked-more (a .table .now) (a .k) (a .delays .now) (start .pre .0) (start .pre .1 .0) (start .pre .1 .1) (l .p) (l .row) (l .last) (l .delays) (l .inv) (below (c .before .before .before .before)) _ (this-job (c .before .before .before .before)) _ _ _ (this-finish (c .before .before .before .before)) (c .before .before .free-between .ensures) (c .before .recovery .ensures) (c .next-row .result) (c .next-row .ensures)
+
+-- ---- after the last turn
 
 same-length : tie.Need-same-length Inv-loop μ-loop
 same-length c = c .before .loop .inv .long

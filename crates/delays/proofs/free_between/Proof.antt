@@ -1,6 +1,6 @@
 -- `delays::free_between` meets its contract: where nothing is refused the answer is the count.
 -- Assumes nothing.
-use Rattle.delays.proofs.Promise.{slots-counted, slots-not-refused}
+use Rattle.delays.proofs.Asked.{slots-counted, slots-not-refused}
 use Rattle.delays.proofs.free_between.Statement.{statement}
 use Rattle.delays.proofs.free_between.Tie as tie
 
