@@ -1,7 +1,7 @@
 -- Laws of the promises of judge and pattern of one job.
 --
 -- In order: the refusals taken apart; a pattern that is handed out; each promise in either case; that two results which a promise allows are
--- equal, but for the pattern. Assumes nothing.
+-- equal, the pattern's buffer too unless a pattern is handed out. Assumes nothing.
 use Prim.Native.Nat.{ℕ, zero, suc, _≤_, _<_}
 use native.Mathlib.Omega.{arith}
 use mathlib.Core.Path.{_≡_, refl, sym, ap, _∙_}
@@ -23,7 +23,7 @@ use Rattle.frame.specs.declared.Verdict.the-variants.{Sound, Miss}
 use Rattle.frame.proofs.Verdicts.{miss-names}
 use Rattle.judge.specs.Rows.{values}
 use Rattle.judge.specs.Walk.{Unwound, CountsFor}
-use Rattle.judge.specs.Asks.{shortPattern, noSuchJob, judgeRefusals, patternRefusals, Handed, HandedFor, Judging, Reaching}
+use Rattle.judge.specs.Asks.{shortPattern, noSuchJob, judgeRefusals, patternRefusals, Unless, Handed, HandedFor, Judging, Reaching}
 use Rattle.judge.specs.declared.Judged.{Judged}
 use Rattle.judge.specs.declared.Judged.the-variants.{With}
 use Rattle.judge.proofs.Latest.{handed-reaches}
@@ -143,3 +143,25 @@ judge-same-answer table k finishes pattern f p g q a b x y = (x .answers ∙ sym
 pub pattern-same-answer : (table : List ℕ) (k job : ℕ) (pattern p q : List ℕ) (a b : Check)
     → Reaching table k job pattern p a → Reaching table k job pattern q b → a ≡ b
 pattern-same-answer table k job pattern p q a b x y = x .answers ∙ sym (y .answers)
+
+-- a refusal leaves the buffer, and sound fills it with zeros
+unless-same : (table : List ℕ) (k : ℕ) (v : Verdict) (c : Check) (before p q : List ℕ) → v ≡ Sound
+    → Unless c (HandedFor table k v before p) (p ≡ before) → Unless c (HandedFor table k v before q) (q ≡ before) → p ≡ q
+unless-same table k v Fine before p q e x y = (rw e at x) ∙ sym (rw e at y)
+unless-same table k v (Refused number place) before p q e x y = x ∙ sym y
+
+pub judge-same-pattern : (table : List ℕ) (k : ℕ) (finishes pattern f p g q : List ℕ) (a b : Judged) → verdict table k ≡ Sound
+    → Judging table k finishes f pattern p a → Judging table k finishes g pattern q b → p ≡ q
+judge-same-pattern table k finishes pattern f p g q a b e x y =
+    unless-same table k (verdict table k) (first (judgeRefusals table k (length finishes) (length pattern))) pattern p q e (x .hands) (y .hands)
+
+-- under a refusal the pattern's buffer is as it was
+pub judge-keeps-pattern : (table : List ℕ) (k : ℕ) (finishes pattern f p : List ℕ) (number place : ℕ)
+    → first (judgeRefusals table k (length finishes) (length pattern)) ≡ Refused number place
+    → (a : Judged) → Judging table k finishes f pattern p a → p ≡ pattern
+judge-keeps-pattern table k finishes pattern f p number place e a x = rw e at (x .hands)
+
+pub pattern-keeps-pattern : (table : List ℕ) (k job : ℕ) (pattern p : List ℕ) (number place : ℕ)
+    → first (patternRefusals table k job (length pattern)) ≡ Refused number place
+    → (a : Check) → Reaching table k job pattern p a → p ≡ pattern
+pattern-keeps-pattern table k job pattern p number place e a x = rw e at (x .hands)
