@@ -8,10 +8,10 @@ mod finishing;
 mod row;
 
 use crate::finishing::by_finish;
-use crate::finishing::fault_free;
 use crate::row::next_row;
 use frame::Free;
 use frame::check_room;
+use frame::fault_free;
 use frame::free_slots;
 use jobs::Check;
 use jobs::check_faults;

@@ -14,3 +14,4 @@ pub mod Sorted
 pub mod NextReady
 pub mod Walk
 pub mod Asks
+pub mod FaultFree

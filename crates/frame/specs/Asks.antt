@@ -3,15 +3,16 @@ use Prim.Native.Nat.{ℕ}
 use mathlib.Core.Path.{_≡_}
 use mathlib.Core.Bool.{Bool, not, _||_}
 use mathlib.Core.List.{List, [], _∷_, _++_}
-use lib.ListN.{length, drop}
+use lib.ListN.{length, drop, replicate}
 use lib.Dec.{ltb, eqb}
 use Rattle.jobs.specs.Below.{listed}
 use Rattle.jobs.specs.Table.{jobs}
-use Rattle.jobs.specs.Refusals.{given, first, cutRow, tooManyJobs, outOfRange}
+use Rattle.jobs.specs.Refusals.{given, first, cutRow, tooManyJobs, outOfRange, tableRefusals}
 use Rattle.jobs.specs.declared.Check.{Check}
 use Rattle.jobs.specs.declared.Check.the-variants.{Fine, Refused}
 use Rattle.frame.specs.Schedule.{finish, freeSlots}
 use Rattle.frame.specs.Latest.{sum}
+use Rattle.frame.specs.Delays.{faultFree}
 use Rattle.frame.specs.declared.Free.{Free}
 use Rattle.frame.specs.declared.Free.the-variants.{Slots}
 
@@ -50,6 +51,12 @@ scheduleRefusals table pattern room =
 pub record Scheduled (table pattern before after : List ℕ) (answer : Check) : Type 0 where
   pub answers : answer ≡ first (scheduleRefusals table pattern (length before))
   pub fills : after ≡ unless (first (scheduleRefusals table pattern (length before))) (fill (jobs table) (finish table pattern) before) before
+
+-- The fault-free finishes in an array of 64 words; all zeros for a table that is refused.
+abbrev pub faultFreeFinishes : List ℕ → List ℕ
+faultFreeFinishes table =
+    let zeros : List ℕ = replicate 64 0 in
+    unless (first (tableRefusals table)) (fill (jobs table) (faultFree table) zeros) zeros
 
 -- The order of refusals for free slots: 1, 2, 3, 9.
 abbrev pub freeSlotsRefusals : List ℕ → ℕ → ℕ → List Check

@@ -11,7 +11,7 @@ ghost use Rattle.jobs.specs.Table.{jobs};
 ghost use Rattle.jobs.specs.Refusals.{first};
 ghost use Rattle.jobs.specs.Orders.{filled, byUrgency};
 ghost use Rattle.frame.specs.Schedule.{need, finish};
-ghost use Rattle.frame.specs.Asks.{Scheduled, fill, scheduleRefusals, shortBuffer, wrongPattern, tooManyFailures};
+ghost use Rattle.frame.specs.Asks.{Scheduled, fill, scheduleRefusals, faultFreeFinishes, shortBuffer, wrongPattern, tooManyFailures};
 ghost use Rattle.frame.specs.Events.{Accepted, ReadyTimes, sooner, nextReady, stillWaits, Chosen, Fits, Ran, Allows, Passes};
 
 // No job becomes ready at this time or later.
@@ -250,4 +250,18 @@ pub fn schedule(table: &[u32], pattern: &[u32], finishes: &mut [u32]) -> Check
             place: place,
         },
     }
+}
+
+// The fault-free finish of each job, by job number: the schedule under a pattern of zeros. All zeros for a table that is refused.
+pub fn fault_free(table: &[u32]) -> [u32; 64]
+    ensures { λ r. ⌜ r ≡ faultFreeFinishes (now (table .entry)) ⌝ }
+{
+    let n = jobs::jobs(table);
+    let none = [0; 64];
+    let mut finishes = [0; 64];
+    if jobs::MOST_JOBS < n {
+        return finishes;
+    }
+    schedule(table, &none[..n], &mut finishes);
+    finishes
 }

@@ -8,7 +8,8 @@ use lib.ListN.{getD}
 use Rattle.jobs.specs.Table.{jobs}
 use Rattle.jobs.specs.Orders.{theJob}
 use Rattle.frame.specs.Delays.{faultFree}
-use Rattle.delays.specs.Places.{jobAtPlace}
+use Rattle.delays.specs.Places.{jobAtPlace, Finishes}
+use Rattle.delays.proofs.Asked.{fault-free-finishes}
 use Rattle.delays.proofs.Walk.{Walked, order-is-places, place-below, next-accepted, next-fits, walked-none, walked-more, walked-done}
 use Rattle.delays.proofs.fill_delays.Statement.{statement}
 use Rattle.delays.proofs.fill_delays.Tie as tie
@@ -21,8 +22,11 @@ abbrev μ-loop : tie.MeasureT-loop
 
 -- ---- what a turn knows
 
+finishes : (c : tie.At-loop Inv-loop μ-loop) → Finishes (c .before .before .before .before .before .before .before .args .table .now) (c .before .before .before .fault-free .result)
+finishes c = fault-free-finishes _ (c .before .before .before .before .before .before .before .pre .0) _ (c .before .before .before .fault-free .ensures)
+
 few : (c : tie.At-loop Inv-loop μ-loop) → jobs (c .before .before .before .before .before .before .before .args .table .now) ≤ 64
-few c = c .before .before .before .fault-free .ensures .few
+few c = finishes c .few
 
 -- p is a finishing place
 below : (c : tie.In-loop Inv-loop μ-loop) → c .before .loop .p < jobs (c .before .before .before .before .before .before .before .before .args .table .now)
@@ -46,7 +50,7 @@ job-below c =
 this-finish : (c : tie.In-loop Inv-loop μ-loop)
     → getD (c .before .before .before .before .fault-free .result) (getD (c .before .before .by-finish .result) (c .before .loop .p) (theJob 0) .0) 0
     ≡ faultFree (c .before .before .before .before .before .before .before .before .args .table .now) (getD (c .before .before .by-finish .result) (c .before .loop .p) (theJob 0) .0)
-this-finish c = c .before .before .before .before .fault-free .ensures .holds .each _ (job-below c)
+this-finish c = finishes (c .before) .holds .each _ (job-below c)
 
 -- ---- before the first turn
 
@@ -54,13 +58,13 @@ jobs-requires : tie.Need-jobs-requires Inv-loop μ-loop
 jobs-requires c κs = tt
 
 fault-free-requires : tie.Need-fault-free-requires Inv-loop μ-loop
-fault-free-requires c κs = c .before .before .before .pre .0
+fault-free-requires c κs = tt
 
 slice-aggregate-by-finish : tie.Need-slice-aggregate-by-finish Inv-loop μ-loop
-slice-aggregate-by-finish c = sym (c .before .fault-free .ensures .holds .long)
+slice-aggregate-by-finish c = sym (fault-free-finishes (c .before .before .before .before .before .args .table .now) (c .before .before .before .before .before .pre .0) _ (c .before .fault-free .ensures) .holds .long)
 
 by-finish-requires : tie.Need-by-finish-requires Inv-loop μ-loop
-by-finish-requires c κs = c .before .fault-free .ensures
+by-finish-requires c κs = fault-free-finishes (c .before .before .before .before .before .args .table .now) (c .before .before .before .before .before .pre .0) _ (c .before .fault-free .ensures)
 
 loop-holds : tie.Need-loop-holds Inv-loop μ-loop
 loop-holds c =
