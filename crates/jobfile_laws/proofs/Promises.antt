@@ -10,7 +10,7 @@ use lib.ListN.{length, take, drop}
 use lib.Seq.{take-at}
 use borrow.Author.Tests.{le-ltb}
 use Rattle.jobs.specs.Table.{rowWords, jobs}
-use Rattle.jobs.specs.Refusals.{first}
+use Rattle.jobs.specs.Refusals.{first, tableRefusals, tooManyFaults}
 use Rattle.jobs.specs.declared.Check.{Check}
 use Rattle.jobs.specs.declared.Check.the-variants.{Fine}
 use Rattle.jobs.proofs.Below.{by-cases}
@@ -65,33 +65,46 @@ read-what-was-written table k buffer len file w room answer after r h =
 
 -- ---- writing what was read
 
--- the rows in the buffer are the table of the file
-rows-read : (file room : List ℕ) (n k : ℕ) (after : List ℕ) → IsBytes file → ReadsTo file room (Jobs n k) after → meaning file ≡ holds (take (n * rowWords) after) k
-rows-read file room n k after bytes r =
+-- the rows in the buffer are the table of the file, whose words are in their ranges, and n counts its jobs
+pub record RowsRead (file : List ℕ) (n k : ℕ) (after : List ℕ) : Type 0 where
+  pub means : meaning file ≡ holds (take (n * rowWords) after) k
+  pub count : n ≡ jobs (take (n * rowWords) after)
+  pub fine : first (tableRefusals (take (n * rowWords) after)) ≡ Fine
+  pub few : tooManyFaults k ≡ Fine
+
+pub rows-read : (file room : List ℕ) (n k : ℕ) (after : List ℕ) → ReadsTo file room (Jobs n k) after → RowsRead file n k after
+rows-read file room n k after r =
     let g = good-file file (length room) (length file) n k (sym (r .answers)) in
     let table = g .table in
     let means = g .means in
     let fits = g .fits in
-    let whole = good table (read-table-fine file table (g .k) bytes means) .whole-rows in
+    let whole = good table (read-table-fine file table (g .k) means) .whole-rows in
     let answer : Jobs n k ≡ Jobs (jobs table) (g .k) = r .answers ∙ sym (answers-table (meaning file) (length room) (length file) table (jobs table) (g .k) means fits refl) in
     let count : n ≡ jobs table = cc in
     let faults : g .k ≡ k = cc in
     let laid : after ≡ over table room = r .fills ∙ fills-table (meaning file) table (g .k) room means fits in
     let rows : take (n * rowWords) after ≡ table =
     ap (take (n * rowWords)) laid ∙ take-at table (drop (length table) room) (n * rowWords) (whole ∙ ap (λ (m : ℕ). m * rowWords) (sym count)) in
-    means ∙ ap (holds table) faults ∙ ap (λ (t : List ℕ). holds t k) (sym rows)
+    let read : meaning file ≡ holds (take (n * rowWords) after) k = means ∙ ap (holds table) faults ∙ ap (λ (t : List ℕ). holds t k) (sym rows) in
+    record {
+      means = read;
+      count = count ∙ ap jobs (sym rows);
+      fine = read-table-fine file (take (n * rowWords) after) k read;
+      few = read-faults-fine file (take (n * rowWords) after) k read;
+    }
 
 pub write-what-was-read : (file room : List ℕ) (n k : ℕ) (table : List ℕ) → IsBytes file → ReadsTo file room (Jobs n k) table
     → (buffer : List ℕ) (answer : Written) (after : List ℕ) → WritesTo (take (n * rowWords) table) k buffer answer after → length file + 5 ≤ length buffer
     → let again = fileOf (take (n * rowWords) table) k in (answer ≡ Length (length again)) × (after ≡ over again buffer) × ((again ≡ file) ↔ (headed file ≡ true))
 write-what-was-read file room n k table bytes r buffer answer after w h =
     let rows = take (n * rowWords) table in
-    let means = rows-read file room n k table bytes r in
+    let read = rows-read file room n k table r in
+    let means = read .means in
     let short : length (fileOf rows k) ≤ length buffer =
     by-cases (headed file)
     (λ t. omega (arith, ap length (headed-same-bytes file rows k bytes means t)))
     (λ t. omega (arith, headless-five-more file rows k bytes means t)) in
-    let fine = all-fine rows k (length buffer) (read-table-fine file rows k bytes means) (read-faults-fine file rows k bytes means) short in (
+    let fine = all-fine rows k (length buffer) (read .fine) (read .few) short in (
       w .answers ∙ ap (λ (c : Check). reported c (length (fileOf rows k))) fine,
       w .fills ∙ ap (λ (c : Check). written c (fileOf rows k) buffer) fine,
       same-bytes-iff-headed file rows k bytes means,

@@ -64,25 +64,25 @@ pub record JobsRead (left : List ℕ) (n : ℕ) (table : List ℕ) : Type 0 wher
   pub long : length table ≡ count * rowWords
   pub few : n + count ≤ 64
   pub fits : InRange table
-  pub same : left ≡ jobsBytes count table
+  pub same : IsBytes left → left ≡ jobsBytes count table
 
 jobs-none : (n : ℕ) → n ≤ 64 → JobsRead [] n []
 unfolding jobsBytes
-jobs-none n h = record { count = 0; long = refl; few = omega arith; fits = λ i l. absurd (omega arith); same = refl }
+jobs-none n h = record { count = 0; long = refl; few = omega arith; fits = λ i l. absurd (omega arith); same = λ h. refl }
 
-jobs-more : (left : List ℕ) (n : ℕ) (table : List ℕ) → IsBytes left → IsJob left n → JobsRead (drop 20 left) (n + 1) table → JobsRead left n (rowOf left ++ table)
+jobs-more : (left : List ℕ) (n : ℕ) (table : List ℕ) → IsJob left n → JobsRead (drop 20 left) (n + 1) table → JobsRead left n (rowOf left ++ table)
 unfolding jobsBytes
-jobs-more left n table h i j =
+jobs-more left n table i j =
     let row = rowOf left in
     record {
       count = suc (j .count);
       long = omega (arith, length-append row table, row-length left, j .long);
       few = omega (arith, j .few);
       fits = more-in-range row table (row-length left) (i .fits) (j .fits);
-      same =
+      same = λ h.
           sym (take-append-drop 20 left)
           ∙ ap (λ (l : List ℕ). l ++ drop 20 left) (sym (job-bytes left n h i))
-          ∙ ap (λ (l : List ℕ). jobBytes row ++ l) (j .same)
+          ∙ ap (λ (l : List ℕ). jobBytes row ++ l) (j .same (bytes-drop 20 left h))
           ∙ sym
           (ap (λ (l : List ℕ). jobBytes l ++ jobsBytes (j .count) (drop rowWords (row ++ table))) (take-at row table rowWords (row-length left))
           ∙ ap (λ (l : List ℕ). jobBytes row ++ jobsBytes (j .count) l) (drop-at row table rowWords (row-length left)));
@@ -102,10 +102,10 @@ nothing-left [] at n k table faults l few e =
 nothing-left (b ∷ left) at n k table faults l few e = absurd (omega arith)
 
 -- with no head at hand, a walk that holds a table has passed its jobs
-jobs-read : (fuel : ℕ) (left : List ℕ) (at n k : ℕ) (table : List ℕ) (faults : ℕ) → length left ≤ fuel → n ≤ 64 → IsBytes left
+jobs-read : (fuel : ℕ) (left : List ℕ) (at n k : ℕ) (table : List ℕ) (faults : ℕ) → length left ≤ fuel → n ≤ 64
     → ((k′ : ℕ) → recordAt left at n ≡ Head k′ → ⊥) → walk left 0 at n k ≡ holds table faults → (k ≡ faults) × JobsRead left n table
-jobs-read zero left at n k table faults l few h headless e = nothing-left left at n k table faults (omega arith) few e
-jobs-read (suc fuel) left at n k table faults l few h headless e =
+jobs-read zero left at n k table faults l few headless e = nothing-left left at n k table faults (omega arith) few e
+jobs-read (suc fuel) left at n k table faults l few headless e =
     by-cases (ltb 0 (length left))
     (λ t.
     by-record (recordAt left at n)
@@ -114,9 +114,9 @@ jobs-read (suc fuel) left at n k table faults l few h headless e =
     let i = as-job left at n r in
     let rest = drop 20 left in
     let apart = row-apart (rowOf left) (walk rest 0 (at + 20) (n + 1) k) table faults (sym (walk-job left at n k r) ∙ e) in
-    let j = jobs-read fuel rest (at + 20) (n + 1) k (apart .0) faults (omega (arith, length-drop 20 left)) (omega (arith, i .few)) (bytes-drop 20 left h)
+    let j = jobs-read fuel rest (at + 20) (n + 1) k (apart .0) faults (omega (arith, length-drop 20 left)) (omega (arith, i .few))
     (λ k′ q. let f = as-head rest (at + 20) (n + 1) k′ q .first in absurd (omega arith)) (apart .1) in
-    (j .0, subst (λ (t : List ℕ). JobsRead left n t) (apart .2) (jobs-more left n (apart .0) h i (j .1))))
+    (j .0, subst (λ (t : List ℕ). JobsRead left n t) (apart .2) (jobs-more left n (apart .0) i (j .1))))
     (λ number place r.
     let bad = walk-bad left at n k number place (ltb-true _ _ t) r in
     let z : _≡_ {A = ℕ} 0 1 = cc in
@@ -128,46 +128,26 @@ jobs-read (suc fuel) left at n k table faults l few h headless e =
 not-headed : (file : List ℕ) → headed file ≡ false → (k : ℕ) → recordAt file 0 0 ≡ Head k → ⊥
 not-headed file t k r = true≢false (ap isHead (sym r) ∙ t)
 
-module _ (file table : List ℕ) (k : ℕ) (bytes : IsBytes file) (means : meaning file ≡ holds table k) where
+module _ (file table : List ℕ) (k : ℕ) (means : meaning file ≡ holds table k) where
   -- a file with a head: its k, and its jobs after the head
   after-head : headed file ≡ true → IsHead file 0 k × JobsRead (drop 5 file) 0 table
   unfolding meaning
   after-head t =
       let h = headed-is (recordAt file 0 0) t in
       let i = as-head file 0 0 (h .0) (h .1) in
-      let j = jobs-read (length (drop 5 file)) (drop 5 file) 5 0 (h .0) table k (omega arith) (omega arith) (bytes-drop 5 file bytes)
+      let j = jobs-read (length (drop 5 file)) (drop 5 file) 5 0 (h .0) table k (omega arith) (omega arith)
       (λ k′ q. let f = as-head (drop 5 file) 5 0 k′ q .first in absurd (omega arith)) (sym (walk-head file 0 0 headlessK (h .0) (h .1)) ∙ means) in
       (subst (λ (f : ℕ). IsHead file 0 f) (j .0) i, j .1)
 
   -- a file without a head: jobs alone
   jobs-alone : headed file ≡ false → (headlessK ≡ k) × JobsRead file 0 table
   unfolding meaning
-  jobs-alone t = jobs-read (length file) file 0 0 headlessK table k (omega arith) (omega arith) bytes (not-headed file t) means
+  jobs-alone t = jobs-read (length file) file 0 0 headlessK table k (omega arith) (omega arith) (not-headed file t) means
 
   count-is : (left : List ℕ) (j : JobsRead left 0 table) → j .count ≡ jobs table
   count-is left j = sym (ap (λ (l : ℕ). l / rowWords) (j .long) ∙ mul-div-cancel (j .count) (lit< tt))
 
-  pub headed-same-bytes : headed file ≡ true → fileOf table k ≡ file
-  unfolding fileOf
-  headed-same-bytes t =
-      let a = after-head t in
-      ap (λ (l : List ℕ). l ++ jobsBytes (jobs table) table) (head-bytes file 0 k bytes (a .0))
-      ∙ ap (λ (l : List ℕ). take 5 file ++ l) (ap (λ (n : ℕ). jobsBytes n table) (sym (count-is (drop 5 file) (a .1))) ∙ sym (a .1 .same))
-      ∙ take-append-drop 5 file
-
-  pub headless-five-more : headed file ≡ false → length (fileOf table k) ≡ length file + 5
-  headless-five-more t =
-      let j = jobs-alone t .1 in
-      omega (arith, fileOf-length table k, count-is file j, ap length (j .same), jobsBytes-length (j .count) table (omega (arith, j .long)))
-
-  -- writing what was read gives the same bytes exactly if the file had a head
-  pub same-bytes-iff-headed : (fileOf table k ≡ file) ↔ (headed file ≡ true)
-  same-bytes-iff-headed = (
-    (λ e. by-cases (headed file) (λ t. t) (λ t. absurd (omega (arith, ap length e, headless-five-more t)))),
-    headed-same-bytes,
-  )
-
-  -- and what was read is not refused by 1, 2, 3 or 4
+  -- What was read is not refused by 1, 2, 3 or 4
   pub read-table-fine : first (tableRefusals table) ≡ Fine
   read-table-fine =
       by-cases (headed file)
@@ -179,3 +159,24 @@ module _ (file table : List ℕ) (k : ℕ) (bytes : IsBytes file) (means : meani
       by-cases (headed file)
       (λ t. given-unless 4 0 (le-ltb _ _ (after-head t .0 .few)))
       (λ t. let one = jobs-alone t .0 in given-unless 4 0 (le-ltb 8 k (omega arith)))
+
+module _ (file table : List ℕ) (k : ℕ) (bytes : IsBytes file) (means : meaning file ≡ holds table k) where
+  pub headed-same-bytes : headed file ≡ true → fileOf table k ≡ file
+  unfolding fileOf
+  headed-same-bytes t =
+      let a = after-head file table k means t in
+      ap (λ (l : List ℕ). l ++ jobsBytes (jobs table) table) (head-bytes file 0 k bytes (a .0))
+      ∙ ap (λ (l : List ℕ). take 5 file ++ l) (ap (λ (n : ℕ). jobsBytes n table) (sym (count-is file table k means (drop 5 file) (a .1))) ∙ sym (a .1 .same (bytes-drop 5 file bytes)))
+      ∙ take-append-drop 5 file
+
+  pub headless-five-more : headed file ≡ false → length (fileOf table k) ≡ length file + 5
+  headless-five-more t =
+      let j = jobs-alone file table k means t .1 in
+      omega (arith, fileOf-length table k, count-is file table k means file j, ap length (j .same bytes), jobsBytes-length (j .count) table (omega (arith, j .long)))
+
+  -- writing what was read gives the same bytes exactly if the file had a head
+  pub same-bytes-iff-headed : (fileOf table k ≡ file) ↔ (headed file ≡ true)
+  same-bytes-iff-headed = (
+    (λ e. by-cases (headed file) (λ t. t) (λ t. absurd (omega (arith, ap length e, headless-five-more t)))),
+    headed-same-bytes,
+  )
