@@ -1,0 +1,60 @@
+-- `report_text::pieces::put_margin` meets its contract: a margin is what is left until the deadline, or the minus sign and what is missing.
+-- Assumes nothing.
+use native.Mathlib.Omega.{arith}
+use mathlib.Core.Path.{sym}
+use Rattle.report_text.proofs.Adding.{adds-same}
+use Rattle.report_text.proofs.Digits.{in-time, too-late}
+use borrow.Author.Needs.{needs}
+use Rattle.report_text.proofs.pieces.put_margin.Statement.{statement}
+use Rattle.report_text.proofs.pieces.put_margin.Tie as tie
+
+cast-put-decimal : tie.Need-cast-put-decimal
+cast-put-decimal c = search needs
+
+put-decimal-requires : tie.Need-put-decimal-requires
+put-decimal-requires c κs = search needs
+
+same-length : tie.Need-same-length
+same-length c = search needs
+
+returns : tie.Need-returns
+returns c =
+    let put = c .before .before in
+    let a = put .before .before .before .before .args in
+    adds-same _ _ _ _ _ _ (sym (in-time (a .deadline) (a .late) (omega arith))) (put .put-decimal .ensures)
+
+slice-aggregate-put-labelled : tie.Need-slice-aggregate-put-labelled
+slice-aggregate-put-labelled c = search needs
+
+sub-put-labelled : tie.Need-sub-put-labelled
+sub-put-labelled c = search needs
+
+cast-put-labelled : tie.Need-cast-put-labelled
+cast-put-labelled c = search needs
+
+put-labelled-requires : tie.Need-put-labelled-requires
+put-labelled-requires c κs = search needs
+
+same-length-2 : tie.Need-same-length-2
+same-length-2 c = search needs
+
+returns-2 : tie.Need-returns-2
+returns-2 c =
+    let put = c .before .before in
+    let a = put .before .before .before .before .before .args in
+    adds-same _ _ _ _ _ _ (sym (too-late (a .deadline) (a .late) (omega arith))) (put .put-labelled .ensures)
+
+pub put-margin-spec : {M : Type 1} → statement M
+put-margin-spec =
+    tie.close
+    (tie.spec
+    cast-put-decimal
+    put-decimal-requires
+    same-length
+    returns
+    slice-aggregate-put-labelled
+    sub-put-labelled
+    cast-put-labelled
+    put-labelled-requires
+    same-length-2
+    returns-2)

@@ -1,0 +1,221 @@
+// The report on a job file, as text: the verdict, a line for each job, and on a miss the pattern.
+use frame::Verdict;
+use jobfile::Contents;
+use jobs::Job;
+use judge::Judged;
+
+mod pieces;
+
+use pieces::put_byte;
+use pieces::put_bytes;
+use pieces::put_decimal;
+use pieces::put_labelled;
+use pieces::put_margin;
+use pieces::put_spaced;
+ghost use mathlib.Core.Path.{_≡_};
+ghost use mathlib.Core.List.{_++_};
+ghost use Prim.Native.Nat.{_*_, _≤_, _<_};
+ghost use lib.ListN.{length, getD, take};
+ghost use lib.IntN.{subℕ};
+ghost use Rattle.jobs.specs.Table.{rowWords, jobs};
+ghost use Rattle.jobs.specs.Refusals.{first, tableRefusals};
+ghost use Rattle.jobs.specs.declared.Check.the-variants.{Fine};
+ghost use Rattle.report_text.specs.Report.{labelled, decimal, verdictText, firstLine, jobLine, jobLines, each, patternLine, lines, refusal, Judges, Reports};
+ghost use Rattle.report_text.specs.Writing.{Adds, Writes};
+
+// The most bytes that a file may have.
+pub const MOST_BYTES: usize = 32_768;
+
+// No report is longer.
+pub const MOST_TEXT: usize = 2_048;
+
+const LF: u8 = 10;
+
+// The verdict and the named job, in the first line.
+fn put_verdict(text: &mut [u8], at: usize, verdict: Verdict) -> usize
+    ensures { λ r. ⌜ Adds (verdictText verdict) (now (text .entry)) at (now (text .exit)) r ⌝ }
+{
+    match verdict {
+        Verdict::Sound => put_bytes(text, at, b" sound"),
+        Verdict::Miss(job, _) => put_labelled(text, at, b" miss ", job.0 as u64),
+    }
+}
+
+// First line: k, number of jobs, verdict.
+fn put_first_line(text: &mut [u8], at: usize, k: u32, n: usize, verdict: Verdict) -> usize
+    ensures { λ r. ⌜ Adds (firstLine k n verdict) (now (text .entry)) at (now (text .exit)) r ⌝ }
+{
+    let after_k = put_labelled(text, at, b"k ", k as u64);
+    let after_n = put_labelled(text, after_k, b" jobs ", n as u64);
+    let end = put_verdict(text, after_n, verdict);
+    put_byte(text, end, LF)
+}
+
+// A job's line: its number, fault-free finish, latest finish, margin.
+fn put_job_line(
+    text: &mut [u8],
+    at: usize,
+    job: usize,
+    early: u32,
+    late: u32,
+    deadline: u32,
+) -> usize
+    ensures { λ r. ⌜ Adds (jobLine job early late (subℕ deadline late)) (now (text .entry)) at (now (text .exit)) r ⌝ }
+{
+    let after_job = put_decimal(text, at, job as u64);
+    let after_early = put_spaced(text, after_job, early);
+    let after_late = put_spaced(text, after_early, late);
+    let before_margin = put_byte(text, after_late, b' ');
+    let end = put_margin(text, before_margin, deadline, late);
+    put_byte(text, end, LF)
+}
+
+// The lines of the jobs.
+fn put_job_lines<'a>(
+    text: &mut [u8],
+    start: usize,
+    table: &'a [u32],
+    early: &'a [u32; 64],
+    late: &'a [u32; 64],
+    n: usize,
+) -> usize
+    requires { ⌜ n ≤ 64 ⌝ }
+    ensures { λ r. ⌜ Adds (jobLines (now (table .entry)) (λ i. getD (now (early .entry)) i 0) (λ i. getD (now (late .entry)) i 0) n) (now (text .entry)) start (now (text .exit)) r ⌝ }
+{
+    let mut at = start;
+    let mut i = 0;
+    while i < n {
+        at = put_job_line(
+            text,
+            at,
+            i,
+            early[i],
+            late[i],
+            jobs::deadline(table, Job(i)),
+        );
+        i += 1;
+    }
+    at
+}
+
+// The counts of a pattern in job order.
+fn put_counts(text: &mut [u8], start: usize, pattern: &[u32; 64], n: usize) -> usize
+    requires { ⌜ n ≤ 64 ⌝ }
+    ensures { λ r. ⌜ Adds (each n (λ i. labelled " " (getD (now (pattern .entry)) i 0))) (now (text .entry)) start (now (text .exit)) r ⌝ }
+{
+    let mut at = start;
+    let mut i = 0;
+    while i < n {
+        at = put_spaced(text, at, pattern[i]);
+        i += 1;
+    }
+    at
+}
+
+// The pattern line, on a miss.
+fn put_pattern_line(
+    text: &mut [u8],
+    at: usize,
+    verdict: Verdict,
+    pattern: &[u32; 64],
+    n: usize,
+) -> usize
+    requires { ⌜ n ≤ 64 ⌝ }
+    ensures { λ r. ⌜ Adds (patternLine n verdict (now (pattern .entry))) (now (text .entry)) at (now (text .exit)) r ⌝ }
+{
+    match verdict {
+        Verdict::Sound => at,
+        Verdict::Miss(_, _) => {
+            let after_word = put_bytes(text, at, b"pattern");
+            let end = put_counts(text, after_word, pattern, n);
+            put_byte(text, end, LF)
+        }
+    }
+}
+
+// The number of a refusal that reading gives.
+fn put_number(text: &mut [u8], at: usize, number: u32) -> usize
+    ensures { λ r. ⌜ Adds (decimal number) (now (text .entry)) at (now (text .exit)) r ⌝ }
+{
+    match number {
+        20 => put_bytes(text, at, b"20"),
+        21 => put_bytes(text, at, b"21"),
+        22 => put_bytes(text, at, b"22"),
+        23 => put_bytes(text, at, b"23"),
+        24 => put_bytes(text, at, b"24"),
+        25 => put_bytes(text, at, b"25"),
+        _ => put_decimal(text, at, number as u64),
+    }
+}
+
+// The one line on a refused file.
+fn put_refusal(text: &mut [u8], number: u32, place: usize) -> usize
+    ensures { λ r. ⌜ Adds (refusal number place) (now (text .entry)) 0 (now (text .exit)) r ⌝ }
+{
+    let after_word = put_bytes(text, 0, b"refused ");
+    let after_number = put_number(text, after_word, number);
+    let end = put_labelled(text, after_number, b" at ", place as u64);
+    put_byte(text, end, LF)
+}
+
+// The lines of a report.
+fn put_lines<'a>(
+    text: &mut [u8],
+    table: &'a [u32],
+    k: u32,
+    verdict: Verdict,
+    early: &'a [u32; 64],
+    late: &'a [u32; 64],
+    pattern: &'a [u32; 64],
+) -> usize
+    requires { ⌜ jobs (now table) ≤ 64 ⌝ }
+    ensures { λ r. ⌜ Adds (lines (now (table .entry)) k verdict (λ i. getD (now (early .entry)) i 0) (λ i. getD (now (late .entry)) i 0) (now (pattern .entry))) (now (text .entry)) 0 (now (text .exit)) r ⌝ }
+{
+    let n = jobs::jobs(table);
+    let after_first = put_first_line(text, 0, k, n, verdict);
+    let after_jobs = put_job_lines(text, after_first, table, early, late, n);
+    put_pattern_line(text, after_jobs, verdict, pattern, n)
+}
+
+// The report on a good table. The judge never refuses it.
+fn put_judged(text: &mut [u8], table: &[u32], k: u32) -> usize
+    requires { ⌜ (first (tableRefusals (now table)) ≡ Fine) × (k < 9) ⌝ }
+    ensures { λ r. ⌜ Writes (Judges (now (table .entry)) k) (now (text .entry)) 0 (now (text .exit)) r ⌝ }
+{
+    let early = frame::fault_free(table);
+    let mut late = [0; 64];
+    let mut pattern = [0; 64];
+    let answer = judge::judge(table, k, &mut late, &mut pattern);
+    match answer {
+        Judged::With(verdict) => put_lines(text, table, k, verdict, &early, &late, &pattern),
+        Judged::Refused {
+            number: _,
+            place: _,
+        } => 0,
+    }
+}
+
+// The report on the first n jobs of a table buffer.
+fn put_report(text: &mut [u8], table: &[u32], n: usize, k: u32) -> usize
+    requires { ⌜ (n * rowWords ≤ length (now table)) × (n ≤ 64) ⌝ }
+    requires { ⌜ (first (tableRefusals (take (n * rowWords) (now table))) ≡ Fine) × (k < 9) ⌝ }
+    ensures { λ r. ⌜ Writes (Judges (take (n * rowWords) (now (table .entry))) k) (now (text .entry)) 0 (now (text .exit)) r ⌝ }
+{
+    let words = n * jobs::ROW;
+    put_judged(text, &table[..words], k)
+}
+
+// Report: the text of the report on a job file at the start of the lent buffer, and how many bytes of it are there. A buffer of
+// MOST_TEXT bytes holds every report.
+pub fn report(file: &[u8], text: &mut [u8]) -> usize
+    ensures { λ r. ⌜ Reports (now (file .entry)) (now (text .entry)) r (now (text .exit)) ⌝ }
+{
+    if MOST_BYTES < file.len() {
+        return put_bytes(text, 0, b"too long\n");
+    }
+    let mut table = [0u32; 256];
+    match jobfile::read(file, &mut table) {
+        Contents::Refused { number, place } => put_refusal(text, number, place),
+        Contents::Jobs { n, k } => put_report(text, &table, n, k),
+    }
+}
