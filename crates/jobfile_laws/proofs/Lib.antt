@@ -2,5 +2,6 @@ pub mod Digits
 pub mod Ranges
 pub mod RoundTrip
 pub mod SameBytes
+pub mod Refused
 pub mod Promises
 pub mod Cases

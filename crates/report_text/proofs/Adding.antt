@@ -1,6 +1,6 @@
 -- A text grows in a buffer piece by piece: nothing, one byte, one piece after another, and nothing more where the buffer is full.
 -- A text laid over a buffer keeps the buffer's length, so that the next byte's place is the text's length until the buffer ends. Assumes nothing.
-use Prim.Native.Nat.{ℕ, zero, suc, _+_, _≤_, _<_, min}
+use Prim.Native.Nat.{ℕ, suc, _+_, _≤_, _<_}
 use native.Mathlib.Omega.{arith}
 use native.Mathlib.Numerals.{add-one}
 use mathlib.Core.Path.{_≡_, refl, sym, ap, _∙_}

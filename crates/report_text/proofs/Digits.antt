@@ -6,12 +6,11 @@ use Prim.Native.Nat.{ℕ, zero, suc, _-_, _^_, _≤_, _<_}
 use native.Mathlib.Nat.{pow-le-pow-right}
 use native.Mathlib.Omega.{arith}
 use native.Mathlib.Numerals.{unary-clauses}
-use mathlib.Core.Path.{_≡_, refl, sym, ap, _∙_}
+use mathlib.Core.Path.{_≡_, sym, ap}
 use lib.Dec.{ltb, lit<}
 use lib.IntN.{subℕ}
 use borrow.Author.Tests.{ltb-true, ltb-false, lt-ltb, le-ltb}
 use Rattle.io.specs.Digits.{digits, Fewest}
-use Rattle.jobs.specs.Below.{least}
 use Rattle.jobs.proofs.Below.{by-cases, least-is}
 use Rattle.report_text.specs.Report.{places, decimal, labelled, signed}
 

@@ -1,15 +1,13 @@
 -- What the judge and the reader answer goes into the report: the judge does not refuse a good table with room for 64 jobs, so its verdict, finishes
 -- and pattern are those of the definitions; and the rows that were read are the file's table. Assumes nothing.
-use Prim.Native.Nat.{ℕ, zero, suc, _*_, _≤_, _<_, min}
+use Prim.Native.Nat.{ℕ, zero, suc, _≤_, _<_}
 use native.Mathlib.Omega.{arith}
-use mathlib.Core.Path.{_≡_, refl, sym, ap, _∙_}
-use mathlib.Core.Bool.{true, false}
+use mathlib.Core.Path.{_≡_, refl, ap, _∙_}
 use mathlib.Core.List.{List, _++_}
-use lib.ListN.{length, getD, take, replicate}
+use lib.ListN.{getD, replicate}
 use lib.IntN.{subℕ}
-use lib.Dec.{ltb}
-use borrow.Author.Tests.{le-ltb, lt-ltb}
-use Rattle.jobs.specs.Table.{rowWords, jobs, deadline}
+use borrow.Author.Tests.{le-ltb}
+use Rattle.jobs.specs.Table.{jobs, deadline}
 use Rattle.jobs.specs.Refusals.{first, tableRefusals}
 use Rattle.jobs.specs.declared.Check.the-variants.{Fine}
 use Rattle.jobs.proofs.Refusals.{good}
@@ -24,7 +22,6 @@ use Rattle.judge.specs.declared.Judged.the-variants.{With}
 use Rattle.judge.proofs.Answers.{judge-refusals}
 use Rattle.report_text.specs.Report.{each, jobLine, jobLines, patternLine, firstLine, lines, Judges}
 use Rattle.report_text.specs.Writing.{Adds, Writes}
-use Rattle.report_text.proofs.Adding.{adds-same}
 
 each-same : (n : ℕ) (p q : ℕ → List ℕ) → ((i : ℕ) → i < n → p i ≡ q i) → each n p ≡ each n q
 unfolding each

@@ -2,3 +2,6 @@ pub mod Adding
 pub mod Digits
 pub mod Judged
 pub mod Reporting
+pub mod Length
+pub mod Same
+pub mod Cases

@@ -2,7 +2,7 @@
 -- file's meaning, since 64 jobs fit the table buffer, so that 26 never comes. Assumes nothing.
 use Prim.Native.Nat.{ℕ, _*_, _≤_, _<_}
 use native.Mathlib.Omega.{arith}
-use mathlib.Core.Path.{_≡_, refl, sym, ap, _∙_}
+use mathlib.Core.Path.{_≡_, refl, sym, _∙_}
 use mathlib.Core.List.{List}
 use lib.ListN.{length, take, replicate}
 use lib.Dec.{ltb}

@@ -49,23 +49,23 @@ verdictText (Miss job time) = labelled " miss " (job .0)
 abbrev pub firstLine : ℕ → ℕ → Verdict → List ℕ
 firstLine k n v = labelled "k " k ++ labelled " jobs " n ++ verdictText v ++ ascii "\n"
 
--- For each job its number, fault-free finish, latest finish, margin.
-abbrev pub jobLine : ℕ → ℕ → ℕ → ℤ → List ℕ
-jobLine job early late m = decimal job ++ labelled " " early ++ labelled " " late ++ ascii " " ++ signed m ++ ascii "\n"
-
 -- The pieces of the first n jobs, one after the other.
 unfoldable pub each : ℕ → (ℕ → List ℕ) → List ℕ
 each zero piece = []
 each (suc n) piece = each n piece ++ piece n
 
--- The pattern line comes only on a miss and gives the judge's counts in job order.
-abbrev pub patternLine : ℕ → Verdict → List ℕ → List ℕ
-patternLine n Sound pattern = []
-patternLine n (Miss job time) pattern = ascii "pattern" ++ each n (λ i. labelled " " (getD pattern i 0)) ++ ascii "\n"
+-- For each job its number, fault-free finish, latest finish, margin.
+abbrev pub jobLine : ℕ → ℕ → ℕ → ℤ → List ℕ
+jobLine job early late m = decimal job ++ labelled " " early ++ labelled " " late ++ ascii " " ++ signed m ++ ascii "\n"
 
 -- The lines of the first n jobs, from their fault-free finishes and their latest finishes.
 abbrev pub jobLines : List ℕ → (ℕ → ℕ) → (ℕ → ℕ) → ℕ → List ℕ
 jobLines table early late n = each n (λ job. jobLine job (early job) (late job) (subℕ (deadline table job) (late job)))
+
+-- The pattern line comes only on a miss and gives the judge's counts in job order.
+abbrev pub patternLine : ℕ → Verdict → List ℕ → List ℕ
+patternLine n Sound pattern = []
+patternLine n (Miss job time) pattern = ascii "pattern" ++ each n (λ i. labelled " " (getD pattern i 0)) ++ ascii "\n"
 
 -- The lines of a report, from the verdict, the finishes and a pattern.
 abbrev pub lines : List ℕ → ℕ → Verdict → (ℕ → ℕ) → (ℕ → ℕ) → List ℕ → List ℕ

@@ -13,7 +13,6 @@ use pieces::put_labelled;
 use pieces::put_margin;
 use pieces::put_spaced;
 ghost use mathlib.Core.Path.{_≡_};
-ghost use mathlib.Core.List.{_++_};
 ghost use Prim.Native.Nat.{_*_, _≤_, _<_};
 ghost use lib.ListN.{length, getD, take};
 ghost use lib.IntN.{subℕ};

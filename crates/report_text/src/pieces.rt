@@ -1,5 +1,4 @@
 // The pieces of a text: bytes and numbers, each written after the one before. What a buffer has no room for is left out.
-ghost use mathlib.Core.Path.{_≡_};
 ghost use mathlib.Core.List.{_∷_, [], _++_};
 ghost use lib.IntN.{subℕ};
 ghost use Rattle.report_text.specs.Report.{decimal, labelled, signed};

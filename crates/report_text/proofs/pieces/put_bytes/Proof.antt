@@ -1,7 +1,7 @@
 -- `report_text::pieces::put_bytes` meets its contract: after i turns the first i bytes are added. Assumes nothing.
 use Prim.Native.Nat.{_-_, _≤_}
 use native.Mathlib.Omega.{arith}
-use mathlib.Core.Path.{refl, sym}
+use mathlib.Core.Path.{refl}
 use lib.ListN.{length, take}
 use Rattle.report_text.proofs.Adding.{Grown, grown-none, bytes-more, bytes-all}
 use Rattle.report_text.proofs.pieces.put_bytes.Statement.{statement}
