@@ -28,6 +28,24 @@ sample() {
     sh -c "$report <'$1'" | cmp - "${1%.job}.report"
 }
 
+# The longest report: 64 times (1000000,100000,0,100000), k 8. Job 0 is named, and only eight failures of its own make it that late.
+longest() {
+    row='\022\000\002\000\100\102\017\000\240\206\001\000\000\000\000\000\240\206\001\000'
+    counts=' 8'
+    job=0
+    printf '\003\000\001\000\010' >$out/longest.job
+    echo 'k 8 jobs 64 miss 0' >$out/longest.report
+    while [ $job -lt 64 ]; do
+        early=$((1100000 + job * 100000))
+        printf "$row" >>$out/longest.job
+        echo "$job $early $((early + 800000)) -$((early + 800000))" >>$out/longest.report
+        [ $job = 0 ] || counts="$counts 0"
+        job=$((job + 1))
+    done
+    echo "pattern$counts" >>$out/longest.report
+    sample $out/longest.job
+}
+
 # A second door, in a folder with a space in its name, where nothing is built, with a stand-in for `rt` that notes its calls.
 second="$here/$out/a door"
 mkdir -p "$second/crates" $out/tools
@@ -58,6 +76,7 @@ step 'report program' rt check report
 for job in samples/*.job; do step "report on $job" sample "$job"; done
 step 'report on case 7' says "$case_7" "$report <$out/miss.job"
 step 'report on case 14, cut off' says 'refused 20 at 5' "printf '$case_2' | head -c 24 | $report"
+step 'report, the longest' longest
 step 'report on no bytes' says 'k 1 jobs 0 sound' "$report </dev/null"
 step 'report on 32,768 bytes' says 'refused 21 at 1285' "cat samples/full-frame.job /dev/zero | head -c 32768 | $report"
 step 'report on 32,769 bytes' says 'too long' "cat samples/full-frame.job /dev/zero | head -c 32769 | $report"
