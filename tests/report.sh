@@ -51,7 +51,7 @@ second="$here/$out/a door"
 mkdir -p "$second/crates" $out/tools
 cp carolwindow "$second"
 : >"$second/crates.txt"
-for tool in sh cat dirname readlink find head mkdir touch cp; do ln -sf "$(command -v $tool)" $out/tools/$tool; done
+for tool in sh cat dirname readlink find head mkdir touch cp rm; do ln -sf "$(command -v $tool)" $out/tools/$tool; done
 cut_short="PATH='$here/$out/tools' '$second/carolwindow' report samples/cut-short.job"
 stand_in() {
     printf '#!/bin/sh\necho "$*" >>calls\n%s\n' "$1" >$out/tools/rt
@@ -69,10 +69,10 @@ cannot_build() {
     touch -t 200001010000 "$second/target/bin/report"
     stand_in 'exit 1'
     complains "the report program could not be proved and built: see $second/target/report.log" "$cut_short" &&
-        [ "$(wc -l <"$second/calls")" -eq 2 ]
+        [ "$(wc -l <"$second/calls")" -eq 2 ] && [ ! -e "$second/target/bin/report" ]
 }
 
-step 'report program' rt check report
+step 'report program' sh -c "rt check report && [ -x $report ]"
 for job in samples/*.job; do step "report on $job" sample "$job"; done
 step 'report on case 7' says "$case_7" "$report <$out/miss.job"
 step 'report on case 14, cut off' says 'refused 20 at 5' "printf '$case_2' | head -c 24 | $report"
