@@ -4,6 +4,7 @@ pub mod Queue
 pub mod Slots
 pub mod Work
 pub mod Finish
+pub mod Shorter
 pub mod Patterns
 pub mod Verdicts
 pub mod Jumps

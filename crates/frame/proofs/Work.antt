@@ -107,7 +107,7 @@ module _ (table pattern : List ℕ) (set : ℕ → Bool) where
       ∙ total-add (jobs table) (λ job. cond (set job && ltb (ready table job) t) (owed t job) 0)
       (λ job. cond (set job && eqb (ready table job) t) (need table pattern job) 0)
 
-  work-start : work 0 ≡ 0
+  pub work-start : work 0 ≡ 0
   unfolding work
   work-start =
       total-zero (jobs table) _

@@ -21,6 +21,7 @@ use Rattle.frame.specs.Schedule.{need, finish}
 use Rattle.frame.specs.Latest.{sum, AtMost, latest, verdict}
 use Rattle.frame.specs.declared.Verdict.the-variants.{Sound, Miss}
 use Rattle.frame.proofs.Finish.{atLeast, workload, finish-bound}
+use Rattle.frame.proofs.Shorter.{Shorter, shorter-no-later}
 use Rattle.frame.proofs.Bounds.{sum-total}
 use Rattle.frame.proofs.Patterns.{Reaches, latest-bounds, latest-reached}
 use Rattle.frame.proofs.Foremost.{Foremost}
@@ -41,6 +42,12 @@ sound-exactly table k = (
       meets-sound table k
       (λ job l. let r = latest-reached table k job in omega (arith, r .reaches, all job l (r .pattern) (r .atMost)))),
 )
+
+-- In a sound table every job ends by its deadline also where runs and recoveries are shorter than the longest.
+pub sound-shorter : (table pattern table′ pattern′ : List ℕ) (k job : ℕ) → verdict table k ≡ Sound → AtMost (jobs table) k pattern → Shorter table pattern table′ pattern′
+    → job < jobs table → 0 < need table′ pattern′ job → finish table′ pattern′ job ≤ deadline table job
+sound-shorter table pattern table′ pattern′ k job e a s l needs =
+    le-trans (shorter-no-later table pattern table′ pattern′ s job l needs) (sound-exactly table k .0 e job l pattern a)
 
 -- On a miss the pattern that was handed out makes the named job finish after its deadline.
 pub miss-shown : (table : List ℕ) (k : ℕ) (job : Job) (time : ℕ) (before after : List ℕ) → verdict table k ≡ Miss job time → (h : Handed table k (job .0) before after)
