@@ -1,6 +1,7 @@
 // The report program: a job file from standard input, the report on it to standard output.
 use libc::STDIN_FILENO;
 use libc::STDOUT_FILENO;
+use report_text::MOST_TEXT;
 
 // Whether standard input has come to its end. A read that fails says no.
 fn at_end() -> bool {
@@ -18,7 +19,7 @@ fn main() {
             return;
         }
     }
-    let mut text = [0u8; 2048];
+    let mut text = [0u8; MOST_TEXT];
     let length = report_text::report(&file[..n], &mut text);
     io::write_all(STDOUT_FILENO, &text[..length]);
 }

@@ -51,17 +51,10 @@ fn put_first_line(text: &mut [u8], at: usize, k: u32, n: usize, verdict: Verdict
 }
 
 // A job's line: its number, fault-free finish, latest finish, margin.
-fn put_job_line(
-    text: &mut [u8],
-    at: usize,
-    job: usize,
-    early: u32,
-    late: u32,
-    deadline: u32,
-) -> usize
-    ensures { λ r. ⌜ Adds (jobLine job early late (subℕ deadline late)) (now (text .entry)) at (now (text .exit)) r ⌝ }
+fn put_job_line(text: &mut [u8], at: usize, job: Job, early: u32, late: u32, deadline: u32) -> usize
+    ensures { λ r. ⌜ Adds (jobLine (job .0) early late (subℕ deadline late)) (now (text .entry)) at (now (text .exit)) r ⌝ }
 {
-    let after_job = put_decimal(text, at, job as u64);
+    let after_job = put_decimal(text, at, job.0 as u64);
     let after_early = put_spaced(text, after_job, early);
     let after_late = put_spaced(text, after_early, late);
     let before_margin = put_byte(text, after_late, b' ');
@@ -84,14 +77,9 @@ fn put_job_lines<'a>(
     let mut at = start;
     let mut i = 0;
     while i < n {
-        at = put_job_line(
-            text,
-            at,
-            i,
-            early[i],
-            late[i],
-            jobs::deadline(table, Job(i)),
-        );
+        let job = Job(i);
+        let due = jobs::deadline(table, job);
+        at = put_job_line(text, at, job, early[i], late[i], due);
         i += 1;
     }
     at

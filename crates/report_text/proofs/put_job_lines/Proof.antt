@@ -23,6 +23,9 @@ abbrev μ-loop : tie.MeasureT-loop
 loop-holds : tie.Need-loop-holds Inv-loop μ-loop
 loop-holds c = (omega arith, each-none _ _ _)
 
+deadline-requires : tie.Need-deadline-requires Inv-loop μ-loop
+deadline-requires c κs = tt
+
 mul-put-job-line : tie.Need-mul-put-job-line Inv-loop μ-loop
 mul-put-job-line c = omega arith
 
@@ -34,9 +37,6 @@ mul-put-job-line-2 c = omega arith
 
 element-copy-out-put-job-line-2 : tie.Need-element-copy-out-put-job-line-2 Inv-loop μ-loop
 element-copy-out-put-job-line-2 c = omega arith
-
-deadline-requires : tie.Need-deadline-requires Inv-loop μ-loop
-deadline-requires c κs = tt
 
 put-job-line-requires : tie.Need-put-job-line-requires Inv-loop μ-loop
 put-job-line-requires c κs = tt
@@ -50,7 +50,7 @@ loop-less c = omega arith
 loop-again : tie.Need-loop-again Inv-loop μ-loop
 loop-again c =
     let put = c .before .before .put-job-line in
-    let due = c .before .before .before .deadline in
+    let due = c .before .before .before .before .before .before .deadline in
     let l = c .before .before .before .before .before .before .before .before .loop in
     let a = c .before .before .before .before .before .before .before .before .before .before .before .args in (
       omega arith,
@@ -74,11 +74,11 @@ put-job-lines-spec =
     Inv-loop
     μ-loop
     loop-holds
+    deadline-requires
     mul-put-job-line
     element-copy-out-put-job-line
     mul-put-job-line-2
     element-copy-out-put-job-line-2
-    deadline-requires
     put-job-line-requires
     add-i
     loop-less
