@@ -1,5 +1,5 @@
 -- What an array holds. The private functions compute by it; no promise of an ask rests on it.
-use Prim.Native.Nat.{ℕ, _<_}
+use Prim.Native.Nat.{ℕ, _^_, _<_}
 use mathlib.Core.Path.{_≡_}
 use mathlib.Core.List.{List}
 use lib.ListN.{length, getD}
@@ -12,3 +12,7 @@ pub record Holds (size : ℕ) (array : List ℕ) (n : ℕ) (values : ℕ → ℕ
 -- The values that an array holds.
 abbrev pub values : List ℕ → ℕ → ℕ
 values array i = getD array i 0
+
+-- The nine values of a row fit 32 bits.
+pub record Fit (row : ℕ → ℕ) : Type 0 where
+  pub fits : (w : ℕ) → w < 9 → row w < 2 ^ 32
