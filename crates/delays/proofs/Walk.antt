@@ -22,9 +22,10 @@ use Rattle.frame.specs.Schedule.{freeSlots}
 use Rattle.frame.specs.Delays.{faultFree, delay}
 use Rattle.frame.specs.Asks.{freeSlotsRefusals, fill}
 use Rattle.frame.proofs.Fill.{written-fill}
-use Rattle.delays.specs.Rows.{nextRow, rows, Holds, Fit, values}
+use Rattle.jobs.specs.Arrays.{Holds, Fit, values}
+use Rattle.delays.specs.Rows.{nextRow, rows}
 use Rattle.delays.specs.Places.{placeOf, jobAtPlace, lastFinish, freeAt, recoveryAt, delayRow}
-use Rattle.delays.proofs.Arrays.{holds-same, holds-zeros}
+use Rattle.jobs.proofs.Arrays.{holds-same, holds-zeros}
 use Rattle.delays.proofs.Rows.{next-same, rows-fit}
 use Rattle.delays.proofs.Places.{places}
 use Rattle.delays.proofs.Asked.{finishes-accepted}

@@ -1,9 +1,6 @@
 -- The delay rows of the paper's formula (6), over any jobs in the order of their finishes. The private functions compute by them; no promise of
 -- an ask rests on them.
-use Prim.Native.Nat.{ℕ, zero, suc, _+_, _-_, _^_, _<_, max}
-use mathlib.Core.Path.{_≡_}
-use mathlib.Core.List.{List}
-use lib.ListN.{length, getD}
+use Prim.Native.Nat.{ℕ, zero, suc, _+_, _-_, max}
 
 -- The next finish's row from the last: zero with w = 0; otherwise the larger of the last row's delay for w, less the free slots between the two
 -- finishes and not below zero, and this row's delay for w − 1 plus V.
@@ -15,16 +12,3 @@ nextRow free recovery last (suc w) = max (last (suc w) - free) (nextRow free rec
 unfoldable pub rows : (ℕ → ℕ) → (ℕ → ℕ) → ℕ → ℕ → ℕ
 rows free recovery zero w = 0
 rows free recovery (suc p) w = nextRow (free p) (recovery p) (rows free recovery p) w
-
--- An array of `size` words, the first n of which hold these values.
-pub record Holds (size : ℕ) (array : List ℕ) (n : ℕ) (values : ℕ → ℕ) : Type 0 where
-  pub long : length array ≡ size
-  pub each : (i : ℕ) → i < n → getD array i 0 ≡ values i
-
--- The values that an array holds.
-abbrev pub values : List ℕ → ℕ → ℕ
-values array i = getD array i 0
-
--- The nine values of a row fit 32 bits.
-pub record Fit (row : ℕ → ℕ) : Type 0 where
-  pub fits : (w : ℕ) → w < 9 → row w < 2 ^ 32

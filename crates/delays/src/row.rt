@@ -1,7 +1,8 @@
 // The row of nine numbers: for each count w of faults from 0 to 8 the most extra work just after a finish.
 ghost use mathlib.Core.Path.{_≡_};
 ghost use Prim.Native.Nat.{_-_, max};
-ghost use Rattle.delays.specs.Rows.{nextRow, Holds, Fit, values};
+ghost use Rattle.jobs.specs.Arrays.{Holds, Fit, values};
+ghost use Rattle.delays.specs.Rows.{nextRow};
 
 // The larger of two amounts of work.
 pub(crate) fn larger(a: u32, b: u32) -> u32

@@ -168,6 +168,18 @@ count-all n = total-ones n
 pub count-at-most : (n : ℕ) (p : ℕ → Bool) → count n p ≤ n
 count-at-most n p = omega (arith, count-le n p (λ i. true) (λ i l e. refl), count-all n)
 
+-- a sum that counts, as a loop adds to it
+pub counted-more : (p : ℕ → Bool) (sum n : ℕ) (next : Bool) → sum ≡ count n p → next ≡ p n → sum + boolByte next ≡ count (n + 1) p
+counted-more p sum n next e f = rw (e, f) (sym (count-more n p))
+
+pub counted-at-most : (p : ℕ → Bool) (sum n : ℕ) (next : Bool) → sum ≡ count n p → sum + boolByte next ≤ n + 1
+counted-at-most p sum n true e = omega (arith, count-at-most n p)
+counted-at-most p sum n false e = omega (arith, count-at-most n p)
+
+pub count-same : (n : ℕ) (p q : ℕ → Bool) → ((i : ℕ) → i < n → p i ≡ q i) → count n p ≡ count n q
+unfolding count
+count-same n p q h = total-same n _ _ (λ i l. ap (λ b. cond b 1 0) (h i l))
+
 -- at most one has p
 pub count-unique : (n : ℕ) (p : ℕ → Bool) → ((i j : ℕ) → i < n → j < n → p i ≡ true → p j ≡ true → i ≡ j) → count n p ≤ 1
 unfolding count total

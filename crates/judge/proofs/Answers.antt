@@ -21,7 +21,7 @@ use Rattle.frame.specs.Asks.{shortBuffer, fill}
 use Rattle.frame.specs.declared.Verdict.{Verdict}
 use Rattle.frame.specs.declared.Verdict.the-variants.{Sound, Miss}
 use Rattle.frame.proofs.Verdicts.{miss-names}
-use Rattle.judge.specs.Rows.{values}
+use Rattle.jobs.specs.Arrays.{values}
 use Rattle.judge.specs.Walk.{Unwound, CountsFor}
 use Rattle.judge.specs.Asks.{shortPattern, noSuchJob, judgeRefusals, patternRefusals, Unless, Handed, HandedFor, Judging, Reaching}
 use Rattle.judge.specs.declared.Judged.{Judged}

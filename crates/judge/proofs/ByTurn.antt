@@ -25,9 +25,10 @@ use Rattle.jobs.proofs.Refusals.{Good, good}
 use Rattle.frame.specs.Latest.{latest}
 use Rattle.frame.proofs.Work.{arrival, arrivals}
 use Rattle.frame.proofs.Finish.{atLeast}
-use Rattle.judge.specs.Rows.{enters, turned, picks, picked, Holds, Fit, values}
+use Rattle.jobs.specs.Arrays.{Holds, Fit, values}
+use Rattle.judge.specs.Rows.{enters, turned, picks, picked}
 use Rattle.judge.specs.Turns.{jobAtTurn, rankOf, Turns}
-use Rattle.judge.proofs.Arrays.{holds-same}
+use Rattle.jobs.proofs.Arrays.{holds-same}
 use Rattle.judge.specs.Walk.{Walk, entered, row, stops, stop, faultsAt, walkOf}
 use Rattle.judge.specs.declared.trail.Picks.{Picks}
 use Rattle.judge.proofs.Rows.{spread-same, spread-bound, picks-same}

@@ -23,7 +23,7 @@ use Rattle.frame.specs.Latest.{latest, verdict}
 use Rattle.frame.specs.declared.Verdict.the-variants.{Sound, Miss}
 use Rattle.frame.proofs.Work.{arrivals}
 use Rattle.frame.proofs.Verdicts.{misses, misses-is, foremost-named, meets-sound}
-use Rattle.judge.specs.Rows.{Holds}
+use Rattle.jobs.specs.Arrays.{Holds}
 use Rattle.judge.specs.Turns.{jobAtTurn}
 
 -- ---- latest finishes by turn

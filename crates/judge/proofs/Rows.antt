@@ -13,8 +13,9 @@ use borrow.Author.Tests.{ltb-true, ltb-false, lt-ltb, le-ltb, leb-true, leb-fals
 use Rattle.jobs.specs.Below.{total, least}
 use Rattle.jobs.proofs.Below.{by-cases, and-left, and-right, below-suc, total-more, total-le, total-zero, total-add, least-le, least-is, least-holds, before-least, least-cases, least-none}
 use Rattle.frame.proofs.Queue.{ends, halts}
-use Rattle.judge.specs.Rows.{again, enters, spread, turned, picks, picked, Holds, Fit, values}
-use Rattle.judge.proofs.Arrays.{holds-same, holds-zeros}
+use Rattle.jobs.specs.Arrays.{Holds, Fit, values}
+use Rattle.judge.specs.Rows.{again, enters, spread, turned, picks, picked}
+use Rattle.jobs.proofs.Arrays.{holds-same, holds-zeros}
 use Rattle.judge.specs.Walk.{Walk, entered, row, stops, stop, faultsAt, unwind, best}
 
 -- ---- one job's step

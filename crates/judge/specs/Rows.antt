@@ -1,9 +1,6 @@
 -- One step of the row: for each count w of faults the latest end of the work so far. The private functions compute by it; no promise
 -- of an ask rests on it.
-use Prim.Native.Nat.{ℕ, zero, suc, _+_, _^_, _<_, max}
-use mathlib.Core.Path.{_≡_}
-use mathlib.Core.List.{List}
-use lib.ListN.{length, getD}
+use Prim.Native.Nat.{ℕ, zero, suc, _+_, max}
 use mathlib.Core.Bool.{Bool, true, false, cond}
 use lib.Dec.{leb}
 
@@ -34,16 +31,3 @@ picks v first (suc w) = cond (leb (again v (spread v first w)) (first (suc w))) 
 -- The faults on a job of the walk; none on one that is less urgent than the judged job.
 abbrev pub picked : Bool → Bool → ℕ → ℕ → ℕ → (ℕ → ℕ) → ℕ → ℕ
 picked on past r c v before w = cond on (picks v (λ u. enters past r c (before u)) w) 0
-
--- An array of `size` words, the first n of which hold these values.
-pub record Holds (size : ℕ) (array : List ℕ) (n : ℕ) (values : ℕ → ℕ) : Type 0 where
-  pub long : length array ≡ size
-  pub each : (i : ℕ) → i < n → getD array i 0 ≡ values i
-
--- The values that an array holds.
-abbrev pub values : List ℕ → ℕ → ℕ
-values array i = getD array i 0
-
--- The nine values of a row fit 32 bits.
-pub record Fit (row : ℕ → ℕ) : Type 0 where
-  pub fits : (w : ℕ) → w < 9 → row w < 2 ^ 32

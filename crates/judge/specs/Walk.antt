@@ -12,7 +12,8 @@ use Rattle.jobs.specs.Urgency.{earlier, position}
 use Rattle.frame.specs.declared.Verdict.{Verdict}
 use Rattle.frame.specs.declared.Verdict.the-variants.{Sound, Miss}
 use Rattle.frame.proofs.Finish.{urgentAt}
-use Rattle.judge.specs.Rows.{enters, spread, picks, Holds}
+use Rattle.jobs.specs.Arrays.{Holds}
+use Rattle.judge.specs.Rows.{enters, spread, picks}
 use Rattle.judge.specs.Turns.{jobAtTurn}
 use Rattle.judge.specs.declared.trail.Picks.{Picks}
 use Rattle.judge.specs.declared.trail.Trail.{Trail}

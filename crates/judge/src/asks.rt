@@ -21,7 +21,7 @@ ghost use Rattle.jobs.specs.Orders.{byReady};
 ghost use Rattle.jobs.specs.declared.Check.the-variants.{Fine};
 ghost use Rattle.frame.specs.Latest.{latest, verdict as verdictOf};
 ghost use Rattle.frame.specs.Asks.{fill};
-ghost use Rattle.judge.specs.Rows.{values};
+ghost use Rattle.jobs.specs.Arrays.{values};
 ghost use Rattle.judge.specs.Turns.{jobAtTurn, Turns};
 ghost use Rattle.judge.specs.Walk.{Unwound, CountsFor};
 ghost use Rattle.judge.specs.Asks.{shortPattern, noSuchJob, judgeRefusals, patternRefusals, Handed, HandedFor, Judging, Reaching};

@@ -1,7 +1,8 @@
 // The row of nine numbers: for each count of faults from 0 to 8 the latest end of the work so far.
 ghost use mathlib.Core.Path.{_≡_};
 ghost use Prim.Native.Nat.{_<_, _^_, max};
-ghost use Rattle.judge.specs.Rows.{again, enters, spread, Holds, Fit, values};
+ghost use Rattle.jobs.specs.Arrays.{Holds, Fit, values};
+ghost use Rattle.judge.specs.Rows.{again, enters, spread};
 
 pub(crate) fn larger(a: u32, b: u32) -> u32
     ensures { λ r. ⌜ r ≡ max a b ⌝ }

@@ -12,7 +12,8 @@ ghost use Prim.Native.Nat.{suc, _<_, _≤_};
 ghost use lib.Dec.{leb};
 ghost use Rattle.jobs.specs.Table.{jobs};
 ghost use Rattle.jobs.specs.Orders.{byReady};
-ghost use Rattle.judge.specs.Rows.{spread, picks, turned, Holds, Fit, values, picked};
+ghost use Rattle.jobs.specs.Arrays.{Holds, Fit, values};
+ghost use Rattle.judge.specs.Rows.{spread, picks, turned, picked};
 ghost use Rattle.judge.specs.Turns.{jobAtTurn, Turns};
 ghost use Rattle.judge.specs.Walk.{TrailOf, Unwound};
 

@@ -2,9 +2,10 @@
 -- faults is zero from the start. Assumes nothing.
 use Prim.Native.Nat.{_-_, _≤_}
 use native.Mathlib.Omega.{arith}
-use Rattle.delays.specs.Rows.{nextRow, values, Holds}
+use Rattle.jobs.specs.Arrays.{values, Holds}
+use Rattle.delays.specs.Rows.{nextRow}
 use Rattle.delays.proofs.Rows.{next-start, next-at}
-use Rattle.delays.proofs.Arrays.{holds-more, holds-to}
+use Rattle.jobs.proofs.Arrays.{holds-more, holds-to}
 use Rattle.delays.proofs.row.next_row.Statement.{statement}
 use Rattle.delays.proofs.row.next_row.Tie as tie
 

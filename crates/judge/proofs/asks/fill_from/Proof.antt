@@ -8,8 +8,8 @@ use mathlib.Core.List.{List}
 use lib.ListN.{length, set}
 use Rattle.frame.specs.Asks.{fill}
 use Rattle.frame.proofs.Fill.{length-fill, fill-none, fill-more}
-use Rattle.judge.specs.Rows.{values}
-use Rattle.judge.proofs.Arrays.{offset-fits, next-fits, fewer-left}
+use Rattle.jobs.specs.Arrays.{values}
+use Rattle.jobs.proofs.Arrays.{offset-fits, next-fits, fewer-left}
 use Rattle.judge.proofs.asks.fill_from.Statement.{statement}
 use Rattle.judge.proofs.asks.fill_from.Tie as tie
 

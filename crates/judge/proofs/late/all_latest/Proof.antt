@@ -4,7 +4,7 @@ use lib.Dec.{lit<}
 use native.Mathlib.Numerals.{add-one-le}
 use native.Mathlib.Nat.{lt-of-lt-of-le}
 use Prim.Native.Nat.{_-_, _≤_, zero-le}
-use Rattle.judge.proofs.Arrays.{offset-fits, next-fits, fewer-left}
+use Rattle.jobs.proofs.Arrays.{offset-fits, next-fits, fewer-left}
 use Rattle.judge.proofs.ByTurn.{turn-job, turn-below}
 use Rattle.judge.proofs.Judging.{LateTo, late-none, late-more, late-all}
 use Rattle.judge.proofs.late.all_latest.Statement.{statement}

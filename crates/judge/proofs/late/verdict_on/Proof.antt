@@ -6,7 +6,7 @@ use native.Mathlib.Nat.{lt-of-lt-of-le}
 use borrow.Author.Count.{below-none}
 use Prim.Native.Nat.{_-_, _≤_, zero-le}
 use mathlib.Core.Path.{sym}
-use Rattle.judge.proofs.Arrays.{offset-fits, next-fits, fewer-left}
+use Rattle.jobs.proofs.Arrays.{offset-fits, next-fits, fewer-left}
 use Rattle.judge.proofs.Judging.{MetTo, named-here, met-here, met-all, rank-job, rank-job-below}
 use Rattle.judge.proofs.late.verdict_on.Statement.{statement}
 use Rattle.judge.proofs.late.verdict_on.Tie as tie

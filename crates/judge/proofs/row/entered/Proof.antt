@@ -4,8 +4,9 @@ use native.Mathlib.Numerals.{add-one-le}
 use native.Mathlib.Nat.{le-antisymm}
 use Prim.Native.Nat.{_-_, _≤_, zero-le}
 use mathlib.Core.Path.{refl}
-use Rattle.judge.specs.Rows.{enters, values, Holds}
-use Rattle.judge.proofs.Arrays.{holds-none, holds-more, holds-to, offset-fits, next-fits, fewer-left}
+use Rattle.jobs.specs.Arrays.{values, Holds}
+use Rattle.judge.specs.Rows.{enters}
+use Rattle.jobs.proofs.Arrays.{holds-none, holds-more, holds-to, offset-fits, next-fits, fewer-left}
 use Rattle.judge.proofs.row.entered.Statement.{statement}
 use Rattle.judge.proofs.row.entered.Tie as tie
 

@@ -5,7 +5,7 @@ use native.Mathlib.Nat.{lt-of-lt-of-le}
 use Prim.Native.Nat.{_-_}
 use mathlib.Core.Path.{refl, sym, _∙_}
 use lib.ListN.{replicate}
-use Rattle.judge.proofs.Arrays.{holds-zeros, offset-fits, next-fits, fewer-left}
+use Rattle.jobs.proofs.Arrays.{holds-zeros, offset-fits, next-fits, fewer-left}
 use Rattle.judge.proofs.ByTurn.{Walked, Noted, stops-is, stops-here, stops-nowhere, made-fits, walked-none, walked-more, noted-none, noted-more}
 use Rattle.judge.proofs.trail.trail_of.Statement.{statement}
 use Rattle.judge.proofs.trail.trail_of.Tie as tie
