@@ -158,31 +158,21 @@ module _ (past : Bool) (r c v : ℕ) (before : List ℕ) where
   abbrev first : ℕ → ℕ
   first u = enters past r c (values before u)
 
-  pub turn-fits-first : (on : Bool) → on ≡ true → Fit (turned on past r c v (values before)) → Fit first
-  turn-fits-first on o f =
-      record { fits = λ w l. omega (arith, spread-first v first w, rw o at (f .fits w l)) }
+  pub turn-fits-first : Fit (turned past r c v (values before)) → Fit first
+  turn-fits-first f = record { fits = λ w l. omega (arith, spread-first v first w, f .fits w l) }
 
   same-spread : (entry : List ℕ) → Holds 9 entry 9 first → (w : ℕ) → w < 9 → spread v (values entry) w ≡ spread v first w
   same-spread entry h w l = spread-same v (values entry) first w (λ u m. h .each u (omega arith))
 
-  pub turn-fits : (on : Bool) → on ≡ true → (entry : List ℕ) → Holds 9 entry 9 first → Fit (turned on past r c v (values before)) → Fit (spread v (values entry))
-  turn-fits on o entry h f = record { fits = λ w l. rw (same-spread entry h w l) (rw o at (f .fits w l)) }
+  pub turn-fits : (entry : List ℕ) → Holds 9 entry 9 first → Fit (turned past r c v (values before)) → Fit (spread v (values entry))
+  turn-fits entry h f = record { fits = λ w l. rw (same-spread entry h w l) (f .fits w l) }
 
-  pub turn-made : (on : Bool) → on ≡ true → (entry next : List ℕ) → Holds 9 entry 9 first → Holds 9 next 9 (spread v (values entry))
-      → Holds 9 next 9 (turned on past r c v (values before))
-  turn-made on o entry next h e =
-      rw o (holds-same 9 next 9 (spread v (values entry)) (spread v first) e (same-spread entry h))
+  pub turn-made : (entry next : List ℕ) → Holds 9 entry 9 first → Holds 9 next 9 (spread v (values entry)) → Holds 9 next 9 (turned past r c v (values before))
+  turn-made entry next h e = holds-same 9 next 9 (spread v (values entry)) (spread v first) e (same-spread entry h)
 
-  pub turn-picked : (on : Bool) → on ≡ true → (entry of : List ℕ) → Holds 9 entry 9 first → Holds 9 of 9 (picks v (values entry))
-      → Holds 9 of 9 (picked on past r c v (values before))
-  turn-picked on o entry of h e =
-      rw o (holds-same 9 of 9 (picks v (values entry)) (picks v first) e (λ w l. picks-same v (values entry) first w (λ u m. h .each u (omega arith))))
-
-  pub turn-none : (on : Bool) → on ≡ false → Holds 9 (replicate 9 0) 9 (picked on past r c v (values before))
-  turn-none on o = rw o (holds-zeros 9)
-
-  pub turn-left : (on : Bool) → on ≡ false → Holds 9 before 9 (values before) → Holds 9 before 9 (turned on past r c v (values before))
-  turn-left on o h = rw o h
+  pub turn-picked : (entry of : List ℕ) → Holds 9 entry 9 first → Holds 9 of 9 (picks v (values entry)) → Holds 9 of 9 (picked past r c v (values before))
+  turn-picked entry of h e =
+      holds-same 9 of 9 (picks v (values entry)) (picks v first) e (λ w l. picks-same v (values entry) first w (λ u m. h .each u (omega arith)))
 
 -- ---- the row of a walk
 

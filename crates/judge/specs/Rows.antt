@@ -19,15 +19,15 @@ unfoldable pub spread : ℕ → (ℕ → ℕ) → ℕ → ℕ
 spread v first zero = first 0
 spread v first (suc w) = max (first (suc w)) (again v (spread v first w))
 
--- The row after a job of the walk; one that is less urgent than the judged job leaves it.
-abbrev pub turned : Bool → Bool → ℕ → ℕ → ℕ → (ℕ → ℕ) → ℕ → ℕ
-turned on past r c v before w = cond on (spread v (λ u. enters past r c (before u)) w) (before w)
+-- The row after a job of the walk.
+abbrev pub turned : Bool → ℕ → ℕ → ℕ → (ℕ → ℕ) → ℕ → ℕ
+turned past r c v before = spread v (λ u. enters past r c (before u))
 
 -- How many of the w faults that is on this job.
 unfoldable pub picks : ℕ → (ℕ → ℕ) → ℕ → ℕ
 picks v first zero = 0
 picks v first (suc w) = cond (leb (again v (spread v first w)) (first (suc w))) 0 (suc (picks v first w))
 
--- The faults on a job of the walk; none on one that is less urgent than the judged job.
-abbrev pub picked : Bool → Bool → ℕ → ℕ → ℕ → (ℕ → ℕ) → ℕ → ℕ
-picked on past r c v before w = cond on (picks v (λ u. enters past r c (before u)) w) 0
+-- The faults on a job of the walk.
+abbrev pub picked : Bool → ℕ → ℕ → ℕ → (ℕ → ℕ) → ℕ → ℕ
+picked past r c v before = picks v (λ u. enters past r c (before u))

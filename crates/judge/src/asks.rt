@@ -4,8 +4,7 @@ use crate::late::all_latest;
 use crate::late::verdict_on;
 use crate::trail::trail_of;
 use crate::trail::unwound;
-use crate::turns::in_turn;
-use crate::turns::ranks_in_turn;
+use crate::turns::by_turn;
 use frame::Verdict;
 use jobs::Arrivals;
 use jobs::Check;
@@ -25,13 +24,6 @@ ghost use Rattle.jobs.specs.Arrays.{values};
 ghost use Rattle.judge.specs.Turns.{jobAtTurn, Turns};
 ghost use Rattle.judge.specs.Walk.{Unwound, CountsFor};
 ghost use Rattle.judge.specs.Asks.{shortPattern, noSuchJob, judgeRefusals, patternRefusals, Handed, HandedFor, Judging, Reaching};
-
-// The indices of the fields in a row.
-const READY: usize = 0;
-
-const RUN: usize = 1;
-
-const RECOVERY: usize = 3;
 
 // Refusal 6, of a pattern buffer.
 fn check_pattern_room(table: &[u32], room: usize) -> Check
@@ -119,21 +111,18 @@ fn turn_of(table: &[u32], order: Arrivals, n: usize, job: Job) -> usize
 fn counts_of<'a>(
     table: &'a [u32],
     order: Arrivals,
-    ready: &'a [u32; 64],
-    run: &'a [u32; 64],
-    recovery: &'a [u32; 64],
-    rank: &'a [u32; 64],
+    turns: &'a [u32; 256],
     n: usize,
     k: usize,
     job: Job,
 ) -> [u32; 64]
     requires { ⌜ order ≡ byReady (now table) ⌝ }
-    requires { ⌜ Turns (now table) n (now ready) (now run) (now recovery) (now rank) ⌝ }
+    requires { ⌜ Turns (now table) n (now turns) ⌝ }
     requires { ⌜ (k < 9) × (job .0 < n) ⌝ }
     ensures { λ r. ⌜ Unwound (now (table .entry)) k (job .0) r ⌝ }
 {
     let own = turn_of(table, order, n, job);
-    let trail = trail_of(table, ready, run, recovery, rank, n, k, own);
+    let trail = trail_of(table, turns, n, k, own);
     unwound(table, order, trail, n, k, own)
 }
 
@@ -142,21 +131,18 @@ fn counts_for<'a>(
     verdict: Verdict,
     table: &'a [u32],
     order: Arrivals,
-    ready: &'a [u32; 64],
-    run: &'a [u32; 64],
-    recovery: &'a [u32; 64],
-    rank: &'a [u32; 64],
+    turns: &'a [u32; 256],
     n: usize,
     k: usize,
 ) -> [u32; 64]
     requires { ⌜ order ≡ byReady (now table) ⌝ }
-    requires { ⌜ Turns (now table) n (now ready) (now run) (now recovery) (now rank) ⌝ }
+    requires { ⌜ Turns (now table) n (now turns) ⌝ }
     requires { ⌜ (k < 9) × (verdict ≡ verdictOf (now table) k) ⌝ }
     ensures { λ r. ⌜ CountsFor (now (table .entry)) k verdict r ⌝ }
 {
     match verdict {
         Verdict::Sound => [0; 64],
-        Verdict::Miss(job, _) => counts_of(table, order, ready, run, recovery, rank, n, k, job),
+        Verdict::Miss(job, _) => counts_of(table, order, turns, n, k, job),
     }
 }
 
@@ -171,13 +157,10 @@ fn judge_frame(table: &[u32], k: usize, finishes: &mut [u32], pattern: &mut [u32
     let n = jobs::jobs(table);
     let order = jobs::by_ready(table);
     let ranking = jobs::by_urgency(table);
-    let ready = in_turn(table, order, n, READY);
-    let run = in_turn(table, order, n, RUN);
-    let recovery = in_turn(table, order, n, RECOVERY);
-    let rank = ranks_in_turn(table, order, ranking, n);
-    let late = all_latest(table, order, &ready, &run, &recovery, &rank, n, k);
+    let turns = by_turn(table, order, ranking, n);
+    let late = all_latest(table, order, &turns, n, k);
     let verdict = verdict_on(table, ranking, &late, n, k);
-    let counts = counts_for(verdict, table, order, &ready, &run, &recovery, &rank, n, k);
+    let counts = counts_for(verdict, table, order, &turns, n, k);
     fill_from(finishes, &late, n);
     fill_from(pattern, &counts, n);
     verdict
@@ -206,11 +189,8 @@ fn hand_out(table: &[u32], k: usize, job: Job, pattern: &mut [u32])
     let n = jobs::jobs(table);
     let order = jobs::by_ready(table);
     let ranking = jobs::by_urgency(table);
-    let ready = in_turn(table, order, n, READY);
-    let run = in_turn(table, order, n, RUN);
-    let recovery = in_turn(table, order, n, RECOVERY);
-    let rank = ranks_in_turn(table, order, ranking, n);
-    let counts = counts_of(table, order, &ready, &run, &recovery, &rank, n, k, job);
+    let turns = by_turn(table, order, ranking, n);
+    let counts = counts_of(table, order, &turns, n, k, job);
     fill_from(pattern, &counts, n);
 }
 

@@ -15,15 +15,12 @@ ghost use Rattle.judge.specs.Turns.{Turns};
 pub(crate) fn all_latest<'a>(
     table: &'a [u32],
     order: Arrivals,
-    ready: &'a [u32; 64],
-    run: &'a [u32; 64],
-    recovery: &'a [u32; 64],
-    rank: &'a [u32; 64],
+    turns: &'a [u32; 256],
     n: usize,
     k: usize,
 ) -> [u32; 64]
     requires { ⌜ order ≡ byReady (now table) ⌝ }
-    requires { ⌜ Turns (now table) n (now ready) (now run) (now recovery) (now rank) ⌝ }
+    requires { ⌜ Turns (now table) n (now turns) ⌝ }
     requires { ⌜ k < 9 ⌝ }
     ensures { λ r. ⌜ Holds 64 r n (latest (now (table .entry)) k) ⌝ }
 {
@@ -32,7 +29,7 @@ pub(crate) fn all_latest<'a>(
     while q < n {
         let job = order.job[q];
         let at = job.0;
-        late[at] = latest_at(table, ready, run, recovery, rank, n, k, q);
+        late[at] = latest_at(table, turns, n, k, q);
         q += 1;
     }
     late

@@ -3,7 +3,11 @@
 use crate::row::entered;
 use crate::row::once_more;
 use crate::row::spread;
+use crate::turns::Turn;
 use crate::turns::ends_before;
+use crate::turns::next_turn;
+use crate::turns::skips;
+use crate::turns::turn_at;
 use crate::turns::turned;
 use jobs::Arrivals;
 ghost use mathlib.Core.Path.{_≡_};
@@ -14,7 +18,7 @@ ghost use Rattle.jobs.specs.Table.{jobs};
 ghost use Rattle.jobs.specs.Orders.{byReady};
 ghost use Rattle.jobs.specs.Arrays.{Holds, Fit, values};
 ghost use Rattle.judge.specs.Rows.{spread, picks, turned, picked};
-ghost use Rattle.judge.specs.Turns.{jobAtTurn, Turns};
+ghost use Rattle.judge.specs.Turns.{jobAtTurn, Walks};
 ghost use Rattle.judge.specs.Walk.{TrailOf, Unwound};
 
 // For each count of faults, how many of them are on the job.
@@ -54,54 +58,47 @@ fn picks_of(first: [u32; 9], next: [u32; 9], recovery: u32) -> [u8; 9]
     of
 }
 
-// The faults on a job of the walk; none where it is less urgent than the judged job.
-fn picked(row: [u32; 9], on: bool, past: bool, ready: u32, run: u32, recovery: u32) -> Picks
-    requires { ⌜ Holds 9 row 9 (values row) ⌝ }
-    requires { ⌜ Fit (turned on past ready run recovery (values row)) ⌝ }
-    ensures { λ r. ⌜ Holds 9 (r .of) 9 (picked on past ready run recovery (values row)) ⌝ }
+// The faults on a job of the walk.
+fn picked(row: [u32; 9], past: bool, turn: Turn) -> Picks
+    requires { ⌜ Fit (turned past (turn .ready) (turn .run) (turn .recovery) (values row)) ⌝ }
+    ensures { λ r. ⌜ Holds 9 (r .of) 9 (picked past (turn .ready) (turn .run) (turn .recovery) (values row)) ⌝ }
 {
-    if on {
-        let first = entered(row, past, ready, run);
-        let next = spread(first, recovery);
-        return Picks {
-            of: picks_of(first, next, recovery),
-        };
+    let first = entered(row, past, turn.ready, turn.run);
+    let next = spread(first, turn.recovery);
+    Picks {
+        of: picks_of(first, next, turn.recovery),
     }
-    Picks { of: [0; 9] }
 }
 
-// The walk of the job at turn `own`, with its notes.
+// The walk of the job at turn `own`, with its notes; none on the jobs that it leaves out.
 pub(crate) fn trail_of<'a>(
     table: &'a [u32],
-    ready: &'a [u32; 64],
-    run: &'a [u32; 64],
-    recovery: &'a [u32; 64],
-    rank: &'a [u32; 64],
+    turns: &'a [u32; 256],
     n: usize,
     k: usize,
     own: usize,
 ) -> Trail
-    requires { ⌜ Turns (now table) n (now ready) (now run) (now recovery) (now rank) ⌝ }
-    requires { ⌜ k < 9 ⌝ }
-    requires { ⌜ own < n ⌝ }
+    requires { ⌜ Walks (now table) n k own (now turns) ⌝ }
     ensures { λ r. ⌜ TrailOf (now (table .entry)) k (jobAtTurn (now (table .entry)) own) r ⌝ }
 {
-    let mine = rank[own];
+    let judged = turn_at(turns, own);
+    let next = skips(turns, n, judged.rank);
     let mut row = [0; 9];
     let mut picks = [Picks { of: [0; 9] }; 64];
-    let mut q = 0;
+    let mut q = next_turn(&next, 0);
     while q < n {
-        let on = rank[q] <= mine;
+        let turn = turn_at(turns, q);
         let past = own < q;
-        if ends_before(past, on, row[k], ready[q]) {
+        if ends_before(past, row, k, turn.ready) {
             return Trail {
                 picks: picks,
                 stop: q,
             };
         }
-        picks[q] = picked(row, on, past, ready[q], run[q], recovery[q]);
-        row = turned(row, on, past, ready[q], run[q], recovery[q]);
-        q += 1;
+        picks[q] = picked(row, past, turn);
+        let after = turned(row, past, turn);
+        row = after;
+        q = next_turn(&next, q + 1);
     }
     Trail {
         picks: picks,

@@ -6,7 +6,9 @@ turn-of-requires : tie.Need-turn-of-requires
 turn-of-requires c κs = let start = c .before in (start .pre .0, (start .pre .1 .0 .all, start .pre .1 .0 .few, start .pre .1 .1 .1))
 
 trail-of-requires : tie.Need-trail-of-requires
-trail-of-requires c κs = let start = c .before .before in (start .pre .1 .0, (start .pre .1 .1 .0, c .turn-of .ensures .0))
+trail-of-requires c κs =
+    let start = c .before .before in
+    record { by-turn = start .pre .1 .0; few-faults = start .pre .1 .1 .0; own-below = c .turn-of .ensures .0 }
 
 unwound-requires : tie.Need-unwound-requires
 unwound-requires c κs = let start = c .before .before .before in (start .pre .0, (c .trail-of .ensures, (start .pre .1 .0 .all, start .pre .1 .0 .few, start .pre .1 .1 .0)))

@@ -1,15 +1,24 @@
 -- `judge::asks::judge_frame` meets its contract: the walks by turn give every latest finish, the verdict is found by rank, and the pattern is
 -- unwound for it; the two buffers are filled from arrays. Assumes nothing.
 use native.Mathlib.Nat.{le-trans, le-of-eq}
-use Prim.Native.Nat.{ℕ}
+use Prim.Native.Nat.{ℕ, _≤_}
 use mathlib.Core.Path.{_∙_, ap}
+use Rattle.jobs.specs.Arrays.{values}
 use Rattle.jobs.proofs.Refusals.{good}
 use Rattle.frame.specs.Latest.{latest}
 use Rattle.frame.specs.Asks.{fill}
-use Rattle.jobs.specs.Arrays.{values}
+use Rattle.judge.specs.Turns.{Turns}
 use Rattle.judge.proofs.Answers.{fill-same, handed-for}
 use Rattle.judge.proofs.asks.judge_frame.Statement.{statement}
 use Rattle.judge.proofs.asks.judge_frame.Tie as tie
+
+few : (c : tie.After-jobs) → c .jobs .result ≤ 64
+few c = let start = c .before .before .before .before in le-trans (le-of-eq (c .jobs .ensures)) (good (start .args .table .now) (start .pre .0) .few-jobs)
+
+turns : (c : tie.After-by-turn) → Turns (c .before .before .before .before .before .before .before .args .table .now) (c .before .before .before .jobs .result) (c .by-turn .result)
+turns c =
+    let jobs = c .before .before .before in
+    record { fine = jobs .before .before .before .before .pre .0; all = jobs .jobs .ensures; few = few jobs; holds = c .by-turn .ensures }
 
 jobs-requires : tie.Need-jobs-requires
 jobs-requires c κs = tt
@@ -20,85 +29,36 @@ by-ready-requires c κs = tt
 by-urgency-requires : tie.Need-by-urgency-requires
 by-urgency-requires c κs = tt
 
-in-turn-requires : tie.Need-in-turn-requires
-in-turn-requires c κs =
-    let start = c .before .before .before .before .before .before in
-    let a = start .args in
-    (c .before .by-ready .ensures, (c .before .before .jobs .ensures, le-trans (le-of-eq (c .before .before .jobs .ensures)) (good (a .table .now) (start .pre .0) .few-jobs)))
-
-in-turn-requires-2 : tie.Need-in-turn-requires-2
-in-turn-requires-2 c κs =
-    let start = c .before .before .before .before .before .before .before in
-    let a = start .args in
-    (c .before .before .by-ready .ensures, (c .before .before .before .jobs .ensures, le-trans (le-of-eq (c .before .before .before .jobs .ensures)) (good (a .table .now) (start .pre .0) .few-jobs)))
-
-in-turn-requires-3 : tie.Need-in-turn-requires-3
-in-turn-requires-3 c κs =
-    let start = c .before .before .before .before .before .before .before .before in
-    let a = start .args in
-    (c .before .before .before .by-ready .ensures, (c .before .before .before .before .jobs .ensures, le-trans (le-of-eq (c .before .before .before .before .jobs .ensures)) (good (a .table .now) (start .pre .0) .few-jobs)))
-
-ranks-in-turn-requires : tie.Need-ranks-in-turn-requires
-ranks-in-turn-requires c κs =
-    let start = c .before .before .before .before .before .before .before .before .before in
-    let a = start .args in
-    (c .before .before .before .before .by-ready .ensures, (c .before .before .before .by-urgency .ensures, (c .before .before .before .before .before .jobs .ensures, le-trans (le-of-eq (c .before .before .before .before .before .jobs .ensures)) (good (a .table .now) (start .pre .0) .few-jobs))))
+by-turn-requires : tie.Need-by-turn-requires
+by-turn-requires c κs =
+    let jobs = c .before .before in
+    (c .before .by-ready .ensures, (c .by-urgency .ensures, (jobs .jobs .ensures, few jobs)))
 
 all-latest-requires : tie.Need-all-latest-requires
 all-latest-requires c κs =
-    let start = c .before .before .before .before .before .before .before .before .before .before .before .before .before .before in
-    let a = start .args in (
-      c .before .before .before .before .before .before .before .before .before .by-ready .ensures,
-      (
-        (record {
-          fine = start .pre .0;
-          all = c .before .before .before .before .before .before .before .before .before .before .jobs .ensures;
-          few = le-trans (le-of-eq (c .before .before .before .before .before .before .before .before .before .before .jobs .ensures)) (good (a .table .now) (start .pre .0) .few-jobs);
-          ready-at = c .before .before .before .before .before .before .before .in-turn .ensures;
-          run-at = c .before .before .before .before .before .before .in-turn2 .ensures;
-          recovery-at = c .before .before .before .before .before .in-turn3 .ensures;
-          rank-at = c .before .before .before .before .ranks-in-turn .ensures;
-        }),
-        start .pre .1 .0,
-      ),
-    )
+    let by-turn = c .before in
+    (by-turn .before .before .by-ready .ensures, (turns by-turn, by-turn .before .before .before .before .before .before .before .pre .1 .0))
 
 verdict-on-requires : tie.Need-verdict-on-requires
 verdict-on-requires c κs =
-    let start = c .before .before .before .before .before .before .before .before .before .before .before .before .before .before .before .before in
-    let a = start .args in
-    (c .before .before .before .before .before .before .before .before .before .before .by-urgency .ensures, (c .before .all-latest .ensures, (c .before .before .before .before .before .before .before .before .before .before .before .before .jobs .ensures, le-trans (le-of-eq (c .before .before .before .before .before .before .before .before .before .before .before .before .jobs .ensures)) (good (a .table .now) (start .pre .0) .few-jobs))))
+    let by-urgency = c .before .before .before .before in
+    let jobs = by-urgency .before .before in
+    (by-urgency .by-urgency .ensures, (c .before .all-latest .ensures, (jobs .jobs .ensures, few jobs)))
 
 counts-for-requires : tie.Need-counts-for-requires
 counts-for-requires c κs =
-    let start = c .before .before .before .before .before .before .before .before .before .before .before .before .before .before .before .before .before .before .before .before .before in
-    let a = start .args in (
-      c .before .before .before .before .before .before .before .before .before .before .before .before .before .before .before .before .by-ready .ensures,
-      (
-        (record {
-          fine = start .pre .0;
-          all = c .before .before .before .before .before .before .before .before .before .before .before .before .before .before .before .before .before .jobs .ensures;
-          few = le-trans (le-of-eq (c .before .before .before .before .before .before .before .before .before .before .before .before .before .before .before .before .before .jobs .ensures)) (good (a .table .now) (start .pre .0) .few-jobs);
-          ready-at = c .before .before .before .before .before .before .before .before .before .before .before .before .before .before .in-turn .ensures;
-          run-at = c .before .before .before .before .before .before .before .before .before .before .before .before .before .in-turn2 .ensures;
-          recovery-at = c .before .before .before .before .before .before .before .before .before .before .before .before .in-turn3 .ensures;
-          rank-at = c .before .before .before .before .before .before .before .before .before .before .before .ranks-in-turn .ensures;
-        }),
-        (start .pre .1 .0, c .before .before .before .before .verdict-on .ensures),
-      ),
-    )
+    let by-turn = c .before .before .before .before .before in
+    (by-turn .before .before .by-ready .ensures, (turns by-turn, (by-turn .before .before .before .before .before .before .before .pre .1 .0, c .before .verdict-on .ensures)))
 
 fill-from-requires : tie.Need-fill-from-requires
 fill-from-requires c κs =
-    let start = c .before .before .before .before .before .before .before .before .before .before .before .before .before .before .before .before .before .before .before .before .before .before .before .before in
-    let a = start .args in
-    (le-trans (le-of-eq (c .before .before .before .before .before .before .before .before .before .before .before .before .before .before .before .before .before .before .before .before .jobs .ensures)) (start .pre .1 .1), le-trans (le-of-eq (c .before .before .before .before .before .before .before .before .before .before .before .before .before .before .before .before .before .before .before .before .jobs .ensures)) (good (a .table .now) (start .pre .0) .few-jobs))
+    let jobs = c .before .before .before .before .before .before .before .before .before .before .before in
+    (le-trans (le-of-eq (jobs .jobs .ensures)) (jobs .before .before .before .before .pre .1 .1), few jobs)
 
 fill-from-requires-2 : tie.Need-fill-from-requires-2
 fill-from-requires-2 c κs =
-    let start = c .before .before .before .before .before .before .before .before .before .before .before .before .before .before .before .before .before .before .before .before .before .before .before .before .before .before .before .before .before in
-    let a = start .args in
-    (le-trans (le-of-eq (c .before .before .before .before .before .before .before .before .before .before .before .before .before .before .before .before .before .before .before .before .before .before .before .before .before .jobs .ensures)) (start .pre .1 .2), le-trans (le-of-eq (c .before .before .before .before .before .before .before .before .before .before .before .before .before .before .before .before .before .before .before .before .before .before .before .before .before .jobs .ensures)) (good (a .table .now) (start .pre .0) .few-jobs))
+    let jobs = c .before .before .before .before .before .before .before .before .before .before .before .before .before .before .before .before in
+    (le-trans (le-of-eq (jobs .jobs .ensures)) (jobs .before .before .before .before .pre .1 .2), few jobs)
 
 same-length : tie.Need-same-length
 same-length c = c .before .before .before .before .before .before .before .fill-from .kept .0
@@ -108,19 +68,19 @@ same-length-2 c = c .before .before .fill-from2 .kept .0
 
 returns : tie.Need-returns
 returns c =
-    let start = c .before .before .before .before .before .before .before .before .before .before .before .before .before .before .before .before .before .before .before .before .before .before .before .before .before .before .before .before .before .before .before .before in
-    let a = start .args in
-    let n-is = c .before .before .before .before .before .before .before .before .before .before .before .before .before .before .before .before .before .before .before .before .before .before .before .before .before .before .before .before .jobs .ensures in
-    let late = c .before .before .before .before .before .before .before .before .before .before .before .before .before .before .before .before .before .all-latest in
-    let verdict = c .before .before .before .before .before .before .before .before .before .before .before .before .before .before .before .verdict-on in
-    let counts = c .before .before .before .before .before .before .before .before .before .before .counts-for in (
-      verdict .ensures,
+    let counts = c .before .before .before .before .before .before .before .before .before .before in
+    let verdict = counts .before .before in
+    let late = verdict .before .before in
+    let jobs = late .before .before .before .before .before in
+    let start = jobs .before .before .before .before in
+    let a = start .args in (
+      verdict .verdict-on .ensures,
       (
         c .before .before .before .before .before .before .before .fill-from .ensures
-            ∙ fill-same _ (values (late .result)) (latest (a .table .now) (a .k)) (a .finishes .now) (λ i l. late .ensures .each i l)
-            ∙ ap (λ (m : ℕ). fill m (latest (a .table .now) (a .k)) (a .finishes .now)) n-is,
-        handed-for (a .table .now) (a .k) (verdict .result) (counts .result) (a .pattern .now) (c .before .before .fill-from2 .last .0) (start .pre .0) (verdict .ensures) (counts .ensures)
-            (c .before .before .fill-from2 .ensures ∙ ap (λ (m : ℕ). fill m (values (counts .result)) (a .pattern .now)) n-is),
+            ∙ fill-same _ (values (late .all-latest .result)) (latest (a .table .now) (a .k)) (a .finishes .now) (λ i l. late .all-latest .ensures .each i l)
+            ∙ ap (λ (m : ℕ). fill m (latest (a .table .now) (a .k)) (a .finishes .now)) (jobs .jobs .ensures),
+        handed-for (a .table .now) (a .k) (verdict .verdict-on .result) (counts .counts-for .result) (a .pattern .now) (c .before .before .fill-from2 .last .0) (start .pre .0) (verdict .verdict-on .ensures) (counts .counts-for .ensures)
+            (c .before .before .fill-from2 .ensures ∙ ap (λ (m : ℕ). fill m (values (counts .counts-for .result)) (a .pattern .now)) (jobs .jobs .ensures)),
       ),
     )
 
@@ -131,10 +91,7 @@ judge-frame-spec =
     jobs-requires
     by-ready-requires
     by-urgency-requires
-    in-turn-requires
-    in-turn-requires-2
-    in-turn-requires-3
-    ranks-in-turn-requires
+    by-turn-requires
     all-latest-requires
     verdict-on-requires
     counts-for-requires

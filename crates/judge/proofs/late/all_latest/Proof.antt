@@ -11,10 +11,10 @@ use Rattle.judge.proofs.late.all_latest.Statement.{statement}
 use Rattle.judge.proofs.late.all_latest.Tie as tie
 
 abbrev Inv-loop : tie.InvT-loop
-Inv-loop table ready run recovery rank n k order late₀ q₀ late q = (q ≤ n) × LateTo table k q late
+Inv-loop table turns n k order late₀ q₀ late q = (q ≤ n) × LateTo table k q late
 
 abbrev μ-loop : tie.MeasureT-loop
-μ-loop table ready run recovery rank n k order late₀ q₀ late q = n - q
+μ-loop table turns n k order late₀ q₀ late q = n - q
 
 loop-holds : tie.Need-loop-holds Inv-loop μ-loop
 loop-holds c =
@@ -28,7 +28,9 @@ element-copy-out-job : tie.Need-element-copy-out-job Inv-loop μ-loop
 element-copy-out-job c = lt-of-lt-of-le (c .loop-test .taken) (c .before .before .before .pre .1 .0 .few)
 
 latest-at-requires : tie.Need-latest-at-requires Inv-loop μ-loop
-latest-at-requires c κs = let start = c .before .before .before .before in (start .pre .1 .0, (start .pre .1 .1, c .before .loop-test .taken))
+latest-at-requires c κs =
+    let start = c .before .before .before .before in
+    record { by-turn = start .pre .1 .0; few-faults = start .pre .1 .1; own-below = c .before .loop-test .taken }
 
 mul-late : tie.Need-mul-late Inv-loop μ-loop
 mul-late c =
