@@ -7,7 +7,7 @@ use native.Mathlib.Omega.{arith}
 use mathlib.Core.Path.{_≡_, refl, sym, ap, _∙_, subst}
 use mathlib.Core.Bool.{Bool, true, false, cond, _&&_, true≢false}
 use mathlib.Core.List.{List}
-use lib.ListN.{length, getD, replicate}
+use lib.ListN.{length, getD}
 use lib.Dec.{leb, ltb, eqb}
 use borrow.Author.Tests.{ltb-true, ltb-false, lt-ltb, le-ltb, leb-true, leb-false, le-leb, lt-leb, eqb-true, eq-eqb, ne-eqb}
 use Rattle.jobs.specs.Below.{total, least}
@@ -15,7 +15,7 @@ use Rattle.jobs.proofs.Below.{by-cases, and-left, and-right, below-suc, total-m
 use Rattle.frame.proofs.Queue.{ends, halts}
 use Rattle.jobs.specs.Arrays.{Holds, Fit, values}
 use Rattle.judge.specs.Rows.{again, enters, spread, turned, picks, picked}
-use Rattle.jobs.proofs.Arrays.{holds-same, holds-zeros}
+use Rattle.jobs.proofs.Arrays.{holds-same}
 use Rattle.judge.specs.Walk.{Walk, entered, row, stops, stop, faultsAt, unwind, best}
 
 -- ---- one job's step
