@@ -23,7 +23,7 @@ abbrev pub ascii : String → List ℕ
 ascii ends = []
 ascii (c followedBy rest) = code c ∷ ascii rest
 
--- How many decimal digits a number has.
+-- How many decimal digits a number has, if they are at most 21.
 unfoldable pub places : ℕ → ℕ
 places n = suc (least 20 (λ d. ltb n (10 ^ suc d)))
 
