@@ -1,8 +1,8 @@
 -- A signed number y without its sign, in the code's steps: y itself, or one more than -1 - y, which 64 signed bits hold for every y below
 -- zero. Assumes nothing.
-use Prim.Native.Nat.{ℕ, suc, zero, _+_, _-_}
+use Prim.Native.Nat.{suc, _+_}
 use native.Mathlib.Omega.{arith}
-use mathlib.Core.Path.{_≡_, refl, ap, _∙_}
+use mathlib.Core.Path.{_≡_, ap, _∙_}
 use mathlib.Core.Bool.{true, false, true≢false}
 use lib.IntN.{ℤ, pos, negsuc, natAbs, _-ℤ_}
 use lib.Signed.{mag, ltZ, nonNeg}

@@ -3,7 +3,7 @@
 -- In order: the refusals of schedule taken apart; schedule's promise in either case, and that two results which it allows are equal: the answer and
 -- the buffer are each equal to the same definition. Assumes nothing.
 use Prim.Native.Nat.{ℕ, _≤_}
-use mathlib.Core.Path.{_≡_, refl, sym, ap, _∙_}
+use mathlib.Core.Path.{_≡_, sym, ap, _∙_}
 use mathlib.Core.List.{List, [], _∷_}
 use lib.ListN.{length}
 use borrow.Author.Tests.{ltb-false, eqb-true, not-false}

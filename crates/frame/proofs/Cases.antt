@@ -1,10 +1,8 @@
 -- 01's tables worked by hand, those marked P: a table of cases under a single statement, proved by computing. Assumes nothing.
-use Prim.Native.Nat.{ℕ, zero, suc, _+_, _≤_}
-use mathlib.Core.Bool.{cond}
+use Prim.Native.Nat.{ℕ, _+_}
 use mathlib.Core.Path.{_≡_, refl}
 use mathlib.Core.List.{List, [], _∷_}
-use lib.ListN.{length}
-use lib.Dec.{lit≤, leb, eqb}
+use lib.Dec.{lit≤, eqb}
 use lib.IntN.{ℤ, pos, negsuc}
 use Rattle.jobs.specs.Below.{total, count, greatest, some, least, listed}
 use Rattle.jobs.specs.Table.{jobs, deadline}

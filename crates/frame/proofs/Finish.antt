@@ -4,19 +4,19 @@
 -- comes to zero. Conversely, with no work left after its ready time the job has had its need. Assumes nothing.
 use Prim.Native.Nat.{ℕ, zero, suc, _+_, _-_, _≤_, _<_, zero-le}
 use native.Mathlib.Omega.{arith}
-use mathlib.Core.Path.{_≡_, refl, sym, ap, _∙_}
-use mathlib.Core.Bool.{Bool, true, false, not, cond, _&&_, true≢false, false≢true}
+use mathlib.Core.Path.{_≡_, sym, ap, _∙_}
+use mathlib.Core.Bool.{Bool, true, false, not, cond, _&&_, true≢false}
 use mathlib.Core.List.{List}
 use lib.Dec.{leb, ltb, eqb}
-use borrow.Author.Tests.{ltb-true, ltb-false, lt-ltb, leb-true, leb-false, le-leb, lt-leb, eqb-true, eqb-false, not-true}
-use Rattle.jobs.specs.Below.{total, greatest, least}
+use borrow.Author.Tests.{ltb-true, ltb-false, lt-ltb, leb-true, le-leb, eqb-true, eqb-false, not-true}
+use Rattle.jobs.specs.Below.{total, least}
 use Rattle.jobs.specs.Table.{jobs, ready}
 use Rattle.jobs.specs.Urgency.{urgent}
 use Rattle.jobs.proofs.Below.{by-cases, and-left, and-right, part-le-total, total-le, total-zero, least-is, greatest-bounds}
-use Rattle.jobs.proofs.Urgency.{StrictOrder, urgency-order}
+use Rattle.jobs.proofs.Urgency.{urgency-order}
 use Rattle.frame.specs.Schedule.{need, had, horizon, finish}
 use Rattle.frame.proofs.Slots.{waitsAt, runsAt, waits-is, is-waiting, runs-is, had-runs, had-stays, had-rests, had-rises, had-within, had-unready}
-use Rattle.frame.proofs.Queue.{FirstZero, left, ends, halts, queue-empties, queue-bound}
+use Rattle.frame.proofs.Queue.{FirstZero, ends, halts, queue-empties, queue-bound}
 use Rattle.frame.proofs.Work.{Closed, owed, work, arrival, comesAt, turn, brings, isOf, arrivals, comes-rising, in-order-of-ready, work-is-left}
 
 module _ (table : List ℕ) (job : ℕ) where

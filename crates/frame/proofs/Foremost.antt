@@ -1,15 +1,15 @@
 -- Of the jobs that have p, one is foremost if there is any, and only one: urgency is an order. Assumes nothing.
-use Prim.Native.Nat.{ℕ, zero, suc, _≤_, _<_}
+use Prim.Native.Nat.{ℕ, zero, suc, _<_}
 use native.Mathlib.Omega.{arith}
-use mathlib.Core.Path.{_≡_, refl, sym, ap, _∙_}
-use mathlib.Core.Bool.{Bool, true, false, not, _&&_, true≢false, false≢true}
+use mathlib.Core.Path.{_≡_, sym, ap, _∙_}
+use mathlib.Core.Bool.{Bool, true, false, _&&_, true≢false, false≢true}
 use mathlib.Core.List.{List}
 use lib.Dec.{ltb}
 use borrow.Author.Tests.{ltb-true, lt-ltb, not-true}
 use Rattle.jobs.specs.Below.{some}
 use Rattle.jobs.specs.Table.{jobs}
 use Rattle.jobs.specs.Urgency.{urgent}
-use Rattle.jobs.proofs.Below.{by-cases, and-left, and-right, and-both, below-suc, some-where, none-at, none-all}
+use Rattle.jobs.proofs.Below.{by-cases, and-left, and-right, below-suc, none-at, none-all}
 use Rattle.jobs.proofs.Urgency.{StrictOrder, urgency-order}
 use Rattle.frame.specs.Schedule.{foremost}
 

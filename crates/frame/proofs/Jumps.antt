@@ -1,17 +1,17 @@
 -- From event to event: while no job becomes ready, the job that runs runs on until its need is met, and an idle processor stays idle.
 -- So a stretch of d slots in which no job becomes ready after the first is one step (run-jump, idle-jump). Assumes nothing.
-use Prim.Native.Nat.{ℕ, zero, suc, _+_, _-_, _≤_, _<_}
+use Prim.Native.Nat.{ℕ, zero, suc, _+_, _≤_, _<_}
 use native.Mathlib.Nat.{add-zero, add-suc, suc-inj}
 use native.Mathlib.Omega.{arith}
-use mathlib.Core.Path.{_≡_, refl, sym, ap, _∙_}
-use mathlib.Core.Bool.{Bool, true, false, true≢false}
+use mathlib.Core.Path.{_≡_, sym, _∙_}
+use mathlib.Core.Bool.{true, false, true≢false}
 use mathlib.Core.List.{List}
 use lib.Dec.{ltb, eqb}
 use borrow.Author.Tests.{ltb-true, ltb-false, eqb-true, eqb-false}
 use Rattle.jobs.specs.Table.{jobs, ready}
 use Rattle.jobs.specs.Urgency.{urgent}
 use Rattle.jobs.proofs.Below.{by-cases}
-use Rattle.jobs.proofs.Urgency.{StrictOrder, urgency-order}
+use Rattle.jobs.proofs.Urgency.{urgency-order}
 use Rattle.frame.specs.Schedule.{need, runs, had}
 use Rattle.frame.proofs.Foremost.{Foremost, is-foremost}
 use Rattle.frame.proofs.Slots.{waitsAt, runsAt, waits-is, is-waiting, runs-is, one-runs, had-runs, had-stays, had-rests}

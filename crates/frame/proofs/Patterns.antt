@@ -1,12 +1,10 @@
 -- `overPatterns` is the greatest over exactly the patterns of n jobs with at most k faults: it bounds each of them, and one reaches it.
 -- Assumes nothing.
-use Prim.Native.Nat.{ℕ, zero, suc, _+_, _-_, _≤_, _<_}
+use Prim.Native.Nat.{ℕ, zero, suc, _-_, _≤_}
 use native.Mathlib.Nat.{le-trans}
 use native.Mathlib.Omega.{arith}
-use mathlib.Core.Path.{_≡_, refl, sym, ap, _∙_}
+use mathlib.Core.Path.{_≡_, refl, sym, _∙_}
 use mathlib.Core.List.{List, [], _∷_}
-use lib.ListN.{length}
-use Rattle.jobs.specs.Below.{greatest}
 use Rattle.jobs.specs.Table.{jobs}
 use Rattle.jobs.proofs.Below.{greatest-bounds, greatest-reached}
 use Rattle.frame.specs.Schedule.{finish}

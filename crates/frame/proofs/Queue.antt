@@ -12,9 +12,9 @@ use native.Mathlib.Omega.{arith}
 use mathlib.Core.Path.{_≡_, refl, sym, ap, _∙_, subst}
 use mathlib.Core.Bool.{Bool, true, false, cond, _&&_, true≢false}
 use lib.Dec.{leb, ltb, eqb}
-use borrow.Author.Tests.{ltb-true, ltb-false, lt-ltb, le-ltb, leb-true, leb-false, le-leb, eqb-true, eq-eqb, ne-eqb}
+use borrow.Author.Tests.{ltb-true, ltb-false, lt-ltb, leb-true, leb-false, eqb-true, eq-eqb}
 use Rattle.jobs.specs.Below.{total, least}
-use Rattle.jobs.proofs.Below.{by-cases, and-left, and-right, below-suc, total-more, total-zero, least-le, least-holds, before-least, least-cases}
+use Rattle.jobs.proofs.Below.{by-cases, and-left, and-right, below-suc, total-more, total-zero, least-le, before-least, least-cases}
 
 -- e is the first time after r at which g is zero
 pub record FirstZero (g : ℕ → ℕ) (r e : ℕ) : Type 0 where

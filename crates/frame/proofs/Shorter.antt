@@ -1,19 +1,17 @@
 -- Shorter runs and recoveries, and fewer failures, make no job end later: with the same ready times and deadlines, if no job needs more, then at no time is
 -- more work left of the jobs at least as urgent, so that it runs empty no later. Assumes nothing.
-use Prim.Native.Nat.{ℕ, zero, suc, _+_, _-_, _≤_, _<_}
+use Prim.Native.Nat.{ℕ, zero, suc, _≤_, _<_}
 use native.Mathlib.Omega.{arith}
-use mathlib.Core.Path.{_≡_, refl, sym, ap, _∙_}
-use mathlib.Core.Bool.{Bool, true, false, not, cond, _&&_}
+use mathlib.Core.Path.{_≡_}
+use mathlib.Core.Bool.{Bool, cond, _&&_}
 use mathlib.Core.List.{List}
 use lib.Dec.{ltb, eqb}
 use borrow.Author.Tests.{ltb-true, ltb-false}
-use Rattle.jobs.specs.Below.{total}
 use Rattle.jobs.specs.Table.{jobs, ready, deadline}
 use Rattle.jobs.specs.Urgency.{byKey, urgent}
 use Rattle.jobs.proofs.Below.{by-cases, total-le}
 use Rattle.frame.specs.Schedule.{need, finish}
-use Rattle.frame.proofs.Queue.{FirstZero}
-use Rattle.frame.proofs.Work.{work, present, arrives, work-start, present-is, work-next}
+use Rattle.frame.proofs.Work.{work, arrives, work-start, present-is, work-next}
 use Rattle.frame.proofs.Finish.{atLeast, at-least-closed, runsEmpty, work-empties, finish-law}
 
 -- a frame that runs shorter: the same jobs, ready times and deadlines, and no job needs more

@@ -5,15 +5,13 @@ use native.Mathlib.Nat.{eq-or-lt-of-le, le-of-suc-le-suc, le-antisymm}
 use native.Mathlib.Omega.{arith}
 use mathlib.Core.Path.{_≡_, refl, sym, ap, _∙_}
 use mathlib.Core.Logic.{⊎-elim}
-use mathlib.Core.Bool.{Bool, true, false, not, cond, _&&_, true≢false, false≢true}
+use mathlib.Core.Bool.{Bool, true, false, true≢false}
 use mathlib.Core.List.{List}
-use lib.Dec.{leb, ltb}
-use borrow.Author.Tests.{ltb-true, ltb-false, lt-ltb, le-ltb, leb-true, leb-false, le-leb, lt-leb, not-true, not-false}
-use Rattle.jobs.specs.Below.{some}
+use lib.Dec.{leb}
+use borrow.Author.Tests.{ltb-true, lt-ltb, leb-true, le-leb, not-true}
 use Rattle.jobs.specs.Table.{jobs, ready}
-use Rattle.jobs.specs.Urgency.{urgent}
 use Rattle.jobs.proofs.Below.{by-cases, and-left, and-right, some-at, none-at}
-use Rattle.frame.specs.Schedule.{need, foremost, waits, runs, had, idle}
+use Rattle.frame.specs.Schedule.{need, waits, runs, had, idle}
 use Rattle.frame.proofs.Foremost.{Foremost, foremost-is, foremost-exists, foremost-one}
 
 module _ (table pattern : List ℕ) where

@@ -1,20 +1,18 @@
 -- The verdict: sound exactly when every job meets its deadline at its latest finish, and on a miss the named job is the most urgent that
 -- does not. Assumes nothing.
-use Prim.Native.Nat.{ℕ, zero, suc, _-_, _≤_, _<_}
+use Prim.Native.Nat.{ℕ, _≤_, _<_}
 use native.Mathlib.Omega.{arith}
-use mathlib.Core.Path.{_≡_, refl, sym, ap, _∙_}
-use mathlib.Core.Bool.{Bool, true, false, cond, true≢false, false≢true}
+use mathlib.Core.Path.{_≡_, sym, ap, _∙_}
+use mathlib.Core.Bool.{Bool, true, false, true≢false}
 use mathlib.Core.List.{List}
 use lib.Dec.{ltb}
-use lib.IntN.{subℕ}
-use borrow.Author.Tests.{ltb-true, ltb-false, lt-ltb, le-ltb}
+use borrow.Author.Tests.{ltb-false, lt-ltb, le-ltb}
 use Rattle.jobs.specs.Below.{some, least}
 use Rattle.jobs.specs.Table.{jobs, deadline}
 use Rattle.jobs.specs.declared.Job.{Job}
 use Rattle.jobs.proofs.Below.{by-cases, some-at, none-at, least-is, least-none}
 use Rattle.frame.specs.Schedule.{foremost}
 use Rattle.frame.specs.Latest.{latest, margin, negative, named, verdict}
-use Rattle.frame.specs.declared.Verdict.{Verdict}
 use Rattle.frame.specs.declared.Verdict.the-variants.{Sound, Miss}
 use Rattle.frame.proofs.Foremost.{Foremost, foremost-is, is-foremost, foremost-exists, foremost-one}
 

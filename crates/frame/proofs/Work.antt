@@ -6,17 +6,17 @@
 use Prim.Native.Nat.{ℕ, zero, suc, _+_, _-_, _≤_, _<_}
 use native.Mathlib.Nat.{eq-or-lt-of-le}
 use native.Mathlib.Omega.{arith}
-use mathlib.Core.Path.{_≡_, refl, sym, ap, _∙_}
+use mathlib.Core.Path.{_≡_, sym, ap, _∙_}
 use mathlib.Core.Logic.{⊎-elim}
-use mathlib.Core.Bool.{Bool, true, false, not, cond, _&&_, true≢false, false≢true}
+use mathlib.Core.Bool.{Bool, true, false, cond, _&&_, true≢false}
 use mathlib.Core.List.{List}
 use lib.Dec.{leb, ltb, eqb, leb·suc-suc}
-use borrow.Author.Tests.{ltb-true, ltb-false, lt-ltb, le-ltb, leb-true, leb-false, le-leb, lt-leb, eqb-true, eqb-false, eq-eqb, ne-eqb}
+use borrow.Author.Tests.{ltb-true, ltb-false, lt-ltb, le-ltb, leb-true, leb-false, le-leb, eqb-true, eqb-false}
 use Rattle.jobs.specs.Below.{total, some}
 use Rattle.jobs.specs.Table.{jobs, ready}
 use Rattle.jobs.specs.Urgency.{urgent, earlier, position, jobAt}
 use Rattle.jobs.proofs.Below.{by-cases, and-left, and-right, and-both, some-where, none-at, total-same, total-zero, total-add, total-falls, total-rearranged}
-use Rattle.jobs.proofs.Urgency.{StrictOrder, urgency-order, earlier-order, earlier-ready-no-later}
+use Rattle.jobs.proofs.Urgency.{urgency-order, earlier-order, earlier-ready-no-later}
 use Rattle.jobs.proofs.Orders.{Rearranges, rearranges}
 use Rattle.frame.specs.Schedule.{need, had}
 use Rattle.frame.proofs.Queue.{comes, left}

@@ -1,7 +1,7 @@
 -- What may be asked of a frame's schedule, with the refusals and the final contents of the lent buffer.
 use Prim.Native.Nat.{ℕ}
 use mathlib.Core.Path.{_≡_}
-use mathlib.Core.Bool.{Bool, not, _||_}
+use mathlib.Core.Bool.{not, _||_}
 use mathlib.Core.List.{List, [], _∷_, _++_}
 use lib.ListN.{length, drop, replicate}
 use lib.Dec.{ltb, eqb}

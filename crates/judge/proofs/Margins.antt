@@ -1,10 +1,9 @@
 -- A margin in the code is the difference of two 32-bit numbers in 64 signed bits, which is exact. Assumes nothing.
-use Prim.Native.Nat.{ℕ, zero, suc, _-_, _<_, _^_, zero-le}
+use Prim.Native.Nat.{ℕ, zero, suc, _<_, _^_, zero-le}
 use native.Mathlib.Nat.{add-zero, sub-zero}
 use native.Mathlib.Omega.{arith}
 use mathlib.Core.Path.{_≡_, refl, sym, ap, _∙_}
-use mathlib.Core.Bool.{true, false}
-use lib.IntN.{ℤ, pos, negsuc, subℕ, _-ℤ_}
+use lib.IntN.{pos, subℕ, _-ℤ_}
 use lib.Dec.{ltb}
 use borrow.Author.Tests.{lt-ltb, le-ltb}
 use mir.Syntax.{w64}

@@ -24,7 +24,6 @@ use Rattle.frame.proofs.Finish.{atLeast, workload, finish-bound}
 use Rattle.frame.proofs.Shorter.{Shorter, shorter-no-later}
 use Rattle.frame.proofs.Bounds.{sum-total}
 use Rattle.frame.proofs.Patterns.{Reaches, latest-bounds, latest-reached}
-use Rattle.frame.proofs.Foremost.{Foremost}
 use Rattle.frame.proofs.Verdicts.{misses-is, miss-names, sound-meets, meets-sound}
 use Rattle.judge.specs.Asks.{Handed}
 

@@ -1,5 +1,5 @@
 -- `frame::events::fault_free` meets its contract: a pattern of zeros is not refused, and its schedule is the one without faults. Assumes nothing.
-use Prim.Native.Nat.{ℕ, _≤_}
+use Prim.Native.Nat.{ℕ}
 use native.Mathlib.Omega.{arith}
 use mathlib.Core.Path.{refl, sym}
 use lib.ListN.{replicate}
