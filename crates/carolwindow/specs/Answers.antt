@@ -6,8 +6,8 @@ use Rattle.jobs.specs.declared.Check.{Check}
 use Rattle.jobs.specs.declared.Check.the-variants.{Fine, Refused}
 use Rattle.frame.specs.declared.Verdict.{Verdict}
 use Rattle.frame.specs.declared.Verdict.the-variants.{Sound, Miss}
-use Rattle.frame.specs.declared.Free.{Free}
-use Rattle.frame.specs.declared.Free.the-variants as free
+use Rattle.schedule.specs.declared.Free.{Free}
+use Rattle.schedule.specs.declared.Free.the-variants as free
 use Rattle.judge.specs.declared.Judged.{Judged}
 use Rattle.judge.specs.declared.Judged.the-variants as judged
 use Rattle.jobfile.specs.declared.Contents.{Contents}

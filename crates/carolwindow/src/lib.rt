@@ -1,22 +1,22 @@
 // The C interface: each function calls an ask and packs its answer into 64 bits. `include/carolwindow.h` declares them for C.
-use frame::Free;
 use frame::Verdict;
 use jobfile::Contents;
 use jobfile_write::Written;
 use jobs::Check;
 use judge::Judged;
+use schedule::Free;
 ghost use mathlib.Core.Path.{_≡_};
 ghost use Prim.Native.Nat.{_+_};
 ghost use Rattle.jobs.specs.declared.Check.{Check};
-ghost use Rattle.frame.specs.declared.Free.{Free};
-ghost use Rattle.frame.specs.Asks.{Scheduled, freeSlotsAnswer};
+ghost use Rattle.schedule.specs.Asks.{Scheduled, freeSlotsAnswer};
+ghost use Rattle.schedule.specs.declared.Free.{Free};
 ghost use Rattle.delays.specs.Ask.{Delayed};
-ghost use Rattle.judge.specs.declared.Judged.{Judged};
 ghost use Rattle.judge.specs.Asks.{Judging, Reaching};
-ghost use Rattle.jobfile.specs.declared.Contents.{Contents};
+ghost use Rattle.judge.specs.declared.Judged.{Judged};
 ghost use Rattle.jobfile.specs.Meaning.{ReadsTo};
-ghost use Rattle.jobfile_write.specs.declared.Written.{Written};
+ghost use Rattle.jobfile.specs.declared.Contents.{Contents};
 ghost use Rattle.jobfile_write.specs.Writing.{WritesTo};
+ghost use Rattle.jobfile_write.specs.declared.Written.{Written};
 ghost use Rattle.carolwindow.specs.Answers.{packed, checkCode, freeCode, verdictCode, judgedCode, contentsCode, writtenCode, Packs};
 
 // The largest value, 2⁵⁶ − 1.
@@ -67,7 +67,7 @@ fn free_code(answer: Free) -> u64
 pub extern "C" fn carolwindow_schedule(table: &[u32], pattern: &[u32], finishes: &mut [u32]) -> u64
     ensures { λ r. ⌜ Packs Check checkCode (Scheduled (now (table .entry)) (now (pattern .entry)) (now (finishes .entry)) (now (finishes .exit))) r ⌝ }
 {
-    check_code(frame::schedule(table, pattern, finishes))
+    check_code(schedule::schedule(table, pattern, finishes))
 }
 
 // Free slots from a to b: the count.
@@ -75,7 +75,7 @@ pub extern "C" fn carolwindow_schedule(table: &[u32], pattern: &[u32], finishes:
 pub extern "C" fn carolwindow_free_slots(table: &[u32], a: u32, b: u32) -> u64
     ensures { λ r. ⌜ r ≡ freeCode (freeSlotsAnswer (now (table .entry)) a b) ⌝ }
 {
-    free_code(frame::free_slots(table, a, b))
+    free_code(schedule::free_slots(table, a, b))
 }
 
 fn judged_code(answer: Judged) -> u64

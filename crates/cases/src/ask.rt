@@ -8,11 +8,11 @@ use crate::say::say_place;
 use crate::say::say_refused;
 use crate::say::say_verdict;
 use crate::say::say_words;
-use frame::Free;
 use jobfile::Contents;
 use jobfile_write::Written;
 use jobs::Check;
 use judge::Judged;
+use schedule::Free;
 
 // The start of a line: the number of the case, and k.
 fn start(case: u32, k: u32) {
@@ -84,7 +84,7 @@ pub(crate) fn shown(case: u32, table: &[u32], k: u32) {
     start(case, k);
     match judge::judge(table, k, &mut latest, &mut pattern) {
         Judged::With(verdict) => {
-            frame::schedule(table, &pattern, &mut finishes);
+            schedule::schedule(table, &pattern, &mut finishes);
             say(b" under the pattern");
             say_named(verdict, &finishes);
         }
@@ -114,7 +114,7 @@ pub(crate) fn scheduled(case: u32, table: &[u32], pattern: &[u32]) {
     say_words(pattern, pattern.len());
     say(b":");
     say_check(
-        frame::schedule(table, pattern, &mut finishes),
+        schedule::schedule(table, pattern, &mut finishes),
         b" finishes",
         &finishes,
     );
@@ -128,7 +128,7 @@ pub(crate) fn free(case: u32, table: &[u32], a: u32, b: u32) {
     say(b" to ");
     say_number(b);
     say(b":");
-    match frame::free_slots(table, a, b) {
+    match schedule::free_slots(table, a, b) {
         Free::Slots(count) => {
             say(b" free slots ");
             say_number(count);

@@ -12,13 +12,13 @@ use Rattle.jobs.specs.declared.Check.the-variants.{Fine}
 use Rattle.jobs.proofs.Refusals.{good}
 use Rattle.frame.specs.Schedule.{noFaults, freeSlots}
 use Rattle.frame.specs.Delays.{faultFree}
-use Rattle.frame.specs.Asks.{faultFreeFinishes, freeSlotsRefusals, freeSlotsAnswer, fill}
-use Rattle.frame.specs.declared.Free.{Free}
-use Rattle.frame.specs.declared.Free.the-variants.{Slots}
 use Rattle.frame.proofs.Bounds.{finish-at-most}
-use Rattle.frame.proofs.FaultFree.{zeros-few}
-use Rattle.frame.proofs.Fill.{length-fill, fill-at}
-use Rattle.frame.proofs.FreeSlots.{free-slots-refusals}
+use Rattle.schedule.specs.Asks.{faultFreeFinishes, freeSlotsRefusals, freeSlotsAnswer, fill}
+use Rattle.schedule.specs.declared.Free.{Free}
+use Rattle.schedule.specs.declared.Free.the-variants.{Slots}
+use Rattle.schedule.proofs.FaultFree.{zeros-few}
+use Rattle.schedule.proofs.Fill.{length-fill, fill-at}
+use Rattle.schedule.proofs.Asks.{free-slots-refusals}
 use Rattle.delays.specs.Places.{jobAtPlace, lastFinish, Finishes}
 use Rattle.delays.proofs.Places.{places}
 

@@ -14,7 +14,7 @@ use Rattle.jobs.specs.declared.Check.{Check}
 use Rattle.jobs.specs.declared.Check.the-variants.{Fine, Refused}
 use Rattle.jobs.proofs.Refusals.{not-given, after-fine, after-last, first-append}
 use Rattle.frame.specs.Delays.{delay}
-use Rattle.frame.specs.Asks.{shortBuffer, fill}
+use Rattle.schedule.specs.Asks.{shortBuffer, fill}
 use Rattle.delays.specs.Ask.{delaysRefusals, Delayed}
 
 -- ---- the refusals of delays

@@ -13,8 +13,8 @@ use lib.ListN.{getD, replicate}
 use lib.Dec.{leb, eqb}
 use borrow.Author.Tests.{leb-true, leb-false, eq-eqb, ne-eqb}
 use Rattle.jobs.specs.Below.{total}
-use Rattle.jobs.proofs.Below.{by-cases, total-same}
 use Rattle.jobs.specs.Arrays.{Holds}
+use Rattle.jobs.proofs.Below.{by-cases, total-same}
 use Rattle.delays.specs.Rows.{nextRow, rows}
 
 -- ---- one step

@@ -12,20 +12,20 @@ use borrow.Author.Tests.{eqb-true, eqb-false}
 use Rattle.jobs.specs.Table.{jobs, recovery}
 use Rattle.jobs.specs.Refusals.{first, tableRefusals}
 use Rattle.jobs.specs.Orders.{theJob, held, filled}
+use Rattle.jobs.specs.Arrays.{Holds, Fit, values}
 use Rattle.jobs.specs.declared.Check.the-variants.{Fine}
 use Rattle.jobs.specs.declared.Job.{Job}
 use Rattle.jobs.proofs.Below.{by-cases, below-suc}
 use Rattle.jobs.proofs.Placed.{getD-filled}
 use Rattle.jobs.proofs.Orders.{held-all}
 use Rattle.jobs.proofs.Refusals.{good}
+use Rattle.jobs.proofs.Arrays.{holds-same, holds-zeros}
 use Rattle.frame.specs.Schedule.{freeSlots}
 use Rattle.frame.specs.Delays.{faultFree, delay}
-use Rattle.frame.specs.Asks.{freeSlotsRefusals, fill}
-use Rattle.frame.proofs.Fill.{written-fill}
-use Rattle.jobs.specs.Arrays.{Holds, Fit, values}
+use Rattle.schedule.specs.Asks.{freeSlotsRefusals, fill}
+use Rattle.schedule.proofs.Fill.{written-fill}
 use Rattle.delays.specs.Rows.{nextRow, rows}
 use Rattle.delays.specs.Places.{placeOf, jobAtPlace, lastFinish, freeAt, recoveryAt, delayRow}
-use Rattle.jobs.proofs.Arrays.{holds-same, holds-zeros}
 use Rattle.delays.proofs.Rows.{next-same, rows-fit}
 use Rattle.delays.proofs.Places.{places}
 use Rattle.delays.proofs.Asked.{finishes-accepted}

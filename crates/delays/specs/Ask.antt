@@ -8,7 +8,7 @@ use Rattle.jobs.specs.Table.{jobs}
 use Rattle.jobs.specs.Refusals.{first, cutRow, tooManyJobs, outOfRange, tooManyFaults}
 use Rattle.jobs.specs.declared.Check.{Check}
 use Rattle.frame.specs.Delays.{delay}
-use Rattle.frame.specs.Asks.{shortBuffer, unless, fill}
+use Rattle.schedule.specs.Asks.{shortBuffer, unless, fill}
 
 -- The order of refusals for delays: 1, 2, 3, 4, 5.
 abbrev pub delaysRefusals : List ℕ → ℕ → ℕ → List Check

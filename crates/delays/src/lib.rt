@@ -9,16 +9,16 @@ mod row;
 
 use crate::finishing::by_finish;
 use crate::row::next_row;
-use frame::Free;
-use frame::check_room;
-use frame::fault_free;
-use frame::free_slots;
 use jobs::Check;
 use jobs::check_faults;
 use jobs::check_table;
 use jobs::first_of;
 use jobs::jobs;
 use jobs::recovery;
+use schedule::Free;
+use schedule::check_room;
+use schedule::fault_free;
+use schedule::free_slots;
 ghost use mathlib.Core.Path.{_≡_};
 ghost use Prim.Native.Nat.{_<_, _≤_};
 ghost use lib.ListN.{length};
@@ -27,7 +27,7 @@ ghost use Rattle.jobs.specs.Refusals.{first, tableRefusals};
 ghost use Rattle.jobs.specs.declared.Check.the-variants.{Fine};
 ghost use Rattle.frame.specs.Schedule.{freeSlots};
 ghost use Rattle.frame.specs.Delays.{delay};
-ghost use Rattle.frame.specs.Asks.{freeSlotsRefusals, fill};
+ghost use Rattle.schedule.specs.Asks.{freeSlotsRefusals, fill};
 ghost use Rattle.delays.specs.Ask.{delaysRefusals, Delayed};
 
 // The refusals of delays, in their order: 1, 2, 3, 4, 5.

@@ -7,12 +7,5 @@ pub mod Finish
 pub mod Shorter
 pub mod Patterns
 pub mod Verdicts
-pub mod Jumps
 pub mod FreeSlots
-pub mod Fill
 pub mod Bounds
-pub mod Sorted
-pub mod NextReady
-pub mod Walk
-pub mod Asks
-pub mod FaultFree

@@ -9,8 +9,8 @@ use lib.ListN.{length, drop, length-append, length-drop, drop-of-length-le}
 use lib.Seq.{drop-drop}
 use lib.Dec.{ltb}
 use borrow.Author.Tests.{lt-ltb, le-ltb, ltb-false}
-use Rattle.jobs.proofs.Below.{by-cases}
 use Rattle.jobs.specs.Table.{rowWords, jobs}
+use Rattle.jobs.proofs.Below.{by-cases}
 use Rattle.jobfile.specs.Bytes.{words}
 use Rattle.jobfile.specs.Meaning.{rowOf, recordAt, Meaning, holds, refused, withRow, walk, headlessK, meaning, answered, filled, Good}
 use Rattle.jobfile.specs.declared.Record.{Record}

@@ -11,8 +11,8 @@ use lib.Seq.{getD-set-same, getD-set-other}
 use mir.Syntax.{w64}
 use mir.Val.{Fits}
 use borrow.Author.Needs.{scaled-fits}
-use Rattle.jobs.proofs.Below.{below-suc}
 use Rattle.jobs.specs.Arrays.{Holds}
+use Rattle.jobs.proofs.Below.{below-suc}
 
 pub holds-none : (size : ℕ) (array : List ℕ) (g : ℕ → ℕ) → length array ≡ size → Holds size array 0 g
 holds-none size array g e = record { long = e; each = λ i l. absurd (omega arith) }

@@ -11,17 +11,17 @@ use borrow.Author.Tests.{ltb-true, ltb-false, not-false}
 use Rattle.jobs.specs.Below.{listed}
 use Rattle.jobs.specs.Table.{jobs}
 use Rattle.jobs.specs.Refusals.{after, first, tableRefusals, tooManyFaults}
+use Rattle.jobs.specs.Arrays.{values}
 use Rattle.jobs.specs.declared.Job.{Job}
 use Rattle.jobs.specs.declared.Check.{Check}
 use Rattle.jobs.specs.declared.Check.the-variants.{Fine, Refused}
 use Rattle.jobs.proofs.Below.{length-listed, getD-listed}
 use Rattle.jobs.proofs.Refusals.{good, not-given, after-fine, after-last, first-append}
 use Rattle.frame.specs.Latest.{latest, verdict}
-use Rattle.frame.specs.Asks.{shortBuffer, fill}
 use Rattle.frame.specs.declared.Verdict.{Verdict}
 use Rattle.frame.specs.declared.Verdict.the-variants.{Sound, Miss}
 use Rattle.frame.proofs.Verdicts.{miss-names}
-use Rattle.jobs.specs.Arrays.{values}
+use Rattle.schedule.specs.Asks.{shortBuffer, fill}
 use Rattle.judge.specs.Walk.{Unwound, CountsFor}
 use Rattle.judge.specs.Asks.{shortPattern, noSuchJob, judgeRefusals, patternRefusals, Unless, Handed, HandedFor, Judging, Reaching}
 use Rattle.judge.specs.declared.Judged.{Judged}

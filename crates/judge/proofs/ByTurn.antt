@@ -14,6 +14,7 @@ use borrow.Author.Count.{below-none, below-more}
 use Rattle.jobs.specs.Table.{jobs, word, ready, run, recovery}
 use Rattle.jobs.specs.Urgency.{urgent}
 use Rattle.jobs.specs.Orders.{theJob, theRank, byUrgency, byReady}
+use Rattle.jobs.specs.Arrays.{Holds, Fit, values}
 use Rattle.jobs.specs.declared.Job.{Job}
 use Rattle.jobs.specs.declared.Rank.{Rank}
 use Rattle.jobs.specs.declared.Ranking.{Ranking}
@@ -22,13 +23,12 @@ use Rattle.jobs.proofs.Below.{by-cases, below-suc, least-is, least-none}
 use Rattle.jobs.proofs.Urgency.{urgency-order}
 use Rattle.jobs.proofs.Orders.{position-below, position-rises, job-by-ready, rank-of-job}
 use Rattle.jobs.proofs.Refusals.{Good, good}
+use Rattle.jobs.proofs.Arrays.{holds-same, holds-zeros}
 use Rattle.frame.specs.Latest.{latest}
 use Rattle.frame.proofs.Work.{arrival, arrivals}
 use Rattle.frame.proofs.Finish.{atLeast}
-use Rattle.jobs.specs.Arrays.{Holds, Fit, values}
 use Rattle.judge.specs.Rows.{enters, turned, picks, picked}
 use Rattle.judge.specs.Turns.{jobAtTurn, rankOf, turnWord, Turns, turnAt, Walks, onTurn, Next, Skips}
-use Rattle.jobs.proofs.Arrays.{holds-same, holds-zeros}
 use Rattle.judge.specs.Walk.{Walk, entered, row, stops, stop, faultsAt, walkOf}
 use Rattle.judge.specs.declared.trail.Picks.{Picks}
 use Rattle.judge.specs.declared.turns.Turn.{Turn}

@@ -14,6 +14,7 @@ use borrow.Author.Count.{below-more}
 use Rattle.jobs.specs.Table.{jobs, deadline}
 use Rattle.jobs.specs.Urgency.{urgent, position, jobAt}
 use Rattle.jobs.specs.Orders.{theJob, byUrgency}
+use Rattle.jobs.specs.Arrays.{Holds}
 use Rattle.jobs.specs.declared.Job.{Job}
 use Rattle.jobs.specs.declared.Ranking.{Ranking}
 use Rattle.jobs.proofs.Below.{by-cases, below-suc}
@@ -23,7 +24,6 @@ use Rattle.frame.specs.Latest.{latest, verdict}
 use Rattle.frame.specs.declared.Verdict.the-variants.{Sound, Miss}
 use Rattle.frame.proofs.Work.{arrivals}
 use Rattle.frame.proofs.Verdicts.{misses, misses-is, foremost-named, meets-sound}
-use Rattle.jobs.specs.Arrays.{Holds}
 use Rattle.judge.specs.Turns.{jobAtTurn}
 
 -- ---- latest finishes by turn

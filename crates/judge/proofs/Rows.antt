@@ -11,11 +11,11 @@ use lib.ListN.{length, getD}
 use lib.Dec.{leb, ltb, eqb}
 use borrow.Author.Tests.{ltb-true, ltb-false, lt-ltb, le-ltb, leb-true, leb-false, le-leb, lt-leb, eqb-true, eq-eqb, ne-eqb}
 use Rattle.jobs.specs.Below.{total, least}
-use Rattle.jobs.proofs.Below.{by-cases, and-left, and-right, below-suc, total-more, total-le, total-zero, total-add, least-le, least-is, least-holds, before-least, least-cases, least-none}
-use Rattle.frame.proofs.Queue.{ends, halts}
 use Rattle.jobs.specs.Arrays.{Holds, Fit, values}
-use Rattle.judge.specs.Rows.{again, enters, spread, turned, picks, picked}
+use Rattle.jobs.proofs.Below.{by-cases, and-left, and-right, below-suc, total-more, total-le, total-zero, total-add, least-le, least-is, least-holds, before-least, least-cases, least-none}
 use Rattle.jobs.proofs.Arrays.{holds-same}
+use Rattle.frame.proofs.Queue.{ends, halts}
+use Rattle.judge.specs.Rows.{again, enters, spread, turned, picks, picked}
 use Rattle.judge.specs.Walk.{Walk, entered, row, stops, stop, faultsAt, unwind, best}
 
 -- ---- one job's step

@@ -13,8 +13,8 @@ use mathlib.Core.List.{List}
 use lib.ListN.{length, getD}
 use borrow.Author.Tests.{ltb-true}
 use Rattle.jobs.specs.Below.{total, greatest}
-use Rattle.jobs.specs.declared.Job.{Job}
 use Rattle.jobs.specs.Table.{jobs, ready, run, deadline, recovery}
+use Rattle.jobs.specs.declared.Job.{Job}
 use Rattle.jobs.proofs.Below.{by-cases, total-le, total-add, greatest-bounds}
 use Rattle.jobs.proofs.Refusals.{Good}
 use Rattle.frame.specs.Schedule.{need, finish}

@@ -11,9 +11,9 @@ use Rattle.jobs.specs.declared.Check.{Check}
 use Rattle.jobs.specs.declared.Check.the-variants.{Fine, Refused}
 use Rattle.frame.specs.Schedule.{finish}
 use Rattle.frame.specs.Latest.{AtMost, latest, verdict}
-use Rattle.frame.specs.Asks.{shortBuffer, unless, fill}
 use Rattle.frame.specs.declared.Verdict.{Verdict}
 use Rattle.frame.specs.declared.Verdict.the-variants.{Sound, Miss}
+use Rattle.schedule.specs.Asks.{shortBuffer, unless, fill}
 use Rattle.judge.specs.declared.Judged.{Judged}
 use Rattle.judge.specs.declared.Judged.the-variants.{With}
 

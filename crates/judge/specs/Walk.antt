@@ -9,10 +9,10 @@ use lib.ListN.{length, getD, replicate}
 use Rattle.jobs.specs.Below.{least}
 use Rattle.jobs.specs.Table.{jobs, ready, run, recovery}
 use Rattle.jobs.specs.Urgency.{earlier, position}
+use Rattle.jobs.specs.Arrays.{Holds}
 use Rattle.frame.specs.declared.Verdict.{Verdict}
 use Rattle.frame.specs.declared.Verdict.the-variants.{Sound, Miss}
 use Rattle.frame.proofs.Finish.{urgentAt}
-use Rattle.jobs.specs.Arrays.{Holds}
 use Rattle.judge.specs.Rows.{enters, spread, picks}
 use Rattle.judge.specs.Turns.{jobAtTurn}
 use Rattle.judge.specs.declared.trail.Picks.{Picks}

@@ -17,10 +17,10 @@ ghost use lib.IntN.{subℕ};
 ghost use Rattle.jobs.specs.Table.{jobs, deadline};
 ghost use Rattle.jobs.specs.Refusals.{first, tableRefusals};
 ghost use Rattle.jobs.specs.Orders.{byReady};
+ghost use Rattle.jobs.specs.Arrays.{values};
 ghost use Rattle.jobs.specs.declared.Check.the-variants.{Fine};
 ghost use Rattle.frame.specs.Latest.{latest, verdict as verdictOf};
-ghost use Rattle.frame.specs.Asks.{fill};
-ghost use Rattle.jobs.specs.Arrays.{values};
+ghost use Rattle.schedule.specs.Asks.{fill};
 ghost use Rattle.judge.specs.Turns.{jobAtTurn, Turns};
 ghost use Rattle.judge.specs.Walk.{Unwound, CountsFor};
 ghost use Rattle.judge.specs.Asks.{shortPattern, noSuchJob, judgeRefusals, patternRefusals, Handed, HandedFor, Judging, Reaching};
@@ -58,7 +58,7 @@ fn check_judge(table: &[u32], k: u32, finishes: usize, pattern: usize) -> Check
     ensures { λ r. ⌜ r ≡ first (judgeRefusals (now (table .entry)) k finishes pattern) ⌝ }
 {
     let last = first_of(
-        frame::check_room(table, finishes),
+        schedule::check_room(table, finishes),
         check_pattern_room(table, pattern),
     );
     first_of(

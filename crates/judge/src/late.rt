@@ -7,8 +7,8 @@ ghost use mathlib.Core.Path.{_≡_};
 ghost use Prim.Native.Nat.{_<_, _≤_};
 ghost use Rattle.jobs.specs.Table.{jobs};
 ghost use Rattle.jobs.specs.Orders.{byReady, byUrgency};
-ghost use Rattle.frame.specs.Latest.{latest, verdict};
 ghost use Rattle.jobs.specs.Arrays.{Holds};
+ghost use Rattle.frame.specs.Latest.{latest, verdict};
 ghost use Rattle.judge.specs.Turns.{Turns};
 
 // The latest finish of each job, by job number.

@@ -13,9 +13,9 @@ use Rattle.jobs.specs.declared.Check.the-variants.{Fine}
 use Rattle.jobs.proofs.Refusals.{good}
 use Rattle.frame.specs.Latest.{latest, verdict}
 use Rattle.frame.specs.Delays.{faultFree}
-use Rattle.frame.specs.Asks.{fill, faultFreeFinishes}
 use Rattle.frame.specs.declared.Verdict.{Verdict}
-use Rattle.frame.proofs.Fill.{fill-at}
+use Rattle.schedule.specs.Asks.{fill, faultFreeFinishes}
+use Rattle.schedule.proofs.Fill.{fill-at}
 use Rattle.judge.specs.Asks.{judgeRefusals, Judging, HandedFor}
 use Rattle.judge.specs.declared.Judged.{Judged}
 use Rattle.judge.specs.declared.Judged.the-variants.{With}

@@ -24,8 +24,8 @@ use Rattle.frame.specs.Delays.{faultFree}
 use Rattle.frame.specs.declared.Verdict.{Verdict}
 use Rattle.frame.specs.declared.Verdict.the-variants.{Sound, Miss}
 use Rattle.frame.proofs.Bounds.{count-at-most, finish-at-most, latest-at-most}
-use Rattle.frame.proofs.FaultFree.{zeros-few}
 use Rattle.frame.proofs.Verdicts.{miss-names}
+use Rattle.schedule.proofs.FaultFree.{zeros-few}
 use Rattle.judge.specs.Asks.{HandedFor}
 use Rattle.jobfile.specs.Bytes.{over}
 use Rattle.jobfile.specs.Meaning.{Meaning, holds, refused, meaning}

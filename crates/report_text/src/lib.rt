@@ -169,7 +169,7 @@ fn put_judged(text: &mut [u8], table: &[u32], k: u32) -> usize
     requires { ⌜ (first (tableRefusals (now table)) ≡ Fine) × (k < 9) ⌝ }
     ensures { λ r. ⌜ Writes (Judges (now (table .entry)) k) (now (text .entry)) 0 (now (text .exit)) r ⌝ }
 {
-    let early = frame::fault_free(table);
+    let early = schedule::fault_free(table);
     let mut late = [0; 64];
     let mut pattern = [0; 64];
     let answer = judge::judge(table, k, &mut late, &mut pattern);

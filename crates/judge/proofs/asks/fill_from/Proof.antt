@@ -6,10 +6,10 @@ use Prim.Native.Nat.{ℕ, _-_, _≤_, zero-le}
 use mathlib.Core.Path.{_≡_, _∙_, ap}
 use mathlib.Core.List.{List}
 use lib.ListN.{length, set}
-use Rattle.frame.specs.Asks.{fill}
-use Rattle.frame.proofs.Fill.{length-fill, fill-none, fill-more}
 use Rattle.jobs.specs.Arrays.{values}
 use Rattle.jobs.proofs.Arrays.{offset-fits, next-fits, fewer-left}
+use Rattle.schedule.specs.Asks.{fill}
+use Rattle.schedule.proofs.Fill.{length-fill, fill-none, fill-more}
 use Rattle.judge.proofs.asks.fill_from.Statement.{statement}
 use Rattle.judge.proofs.asks.fill_from.Tie as tie
 

@@ -4,7 +4,7 @@ use Prim.Native.Nat.{ℕ, _≤_}
 use mathlib.Core.Path.{_∙_, ap, sym}
 use Rattle.jobs.specs.Arrays.{values}
 use Rattle.jobs.proofs.Refusals.{good}
-use Rattle.frame.specs.Asks.{fill}
+use Rattle.schedule.specs.Asks.{fill}
 use Rattle.judge.proofs.Answers.{counts-handed}
 use Rattle.judge.proofs.asks.hand_out.Statement.{statement}
 use Rattle.judge.proofs.asks.hand_out.Tie as tie

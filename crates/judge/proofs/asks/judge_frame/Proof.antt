@@ -6,7 +6,7 @@ use mathlib.Core.Path.{_∙_, ap}
 use Rattle.jobs.specs.Arrays.{values}
 use Rattle.jobs.proofs.Refusals.{good}
 use Rattle.frame.specs.Latest.{latest}
-use Rattle.frame.specs.Asks.{fill}
+use Rattle.schedule.specs.Asks.{fill}
 use Rattle.judge.specs.Turns.{Turns}
 use Rattle.judge.proofs.Answers.{fill-same, handed-for}
 use Rattle.judge.proofs.asks.judge_frame.Statement.{statement}
