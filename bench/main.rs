@@ -7,6 +7,7 @@
 mod plain;
 
 use plain::{Job, MOST_JOBS};
+use std::array::from_fn;
 use std::hint::black_box;
 
 extern "C" {
@@ -78,19 +79,26 @@ fn clock() -> f64 {
     time.seconds as f64 * 1e9 + time.nanoseconds as f64
 }
 
-/// Nanoseconds for one call of `work`, which makes `calls` of them: the best of twelve rounds of at least 2 ms.
-fn time(calls: usize, mut work: impl FnMut()) -> f64 {
-    let mut repeats = 1;
-    let mut round = |repeats: u32| {
+/// Nanoseconds for one call of each work, which makes `calls` of them: the best of twelve rounds of at least 2 ms. The works take
+/// turns, so that a slow stretch of the machine does not fall on one of them alone.
+fn times<const N: usize>(calls: usize, works: [&mut dyn FnMut(); N]) -> [f64; N] {
+    let mut round = |i: usize, repeats: u32| {
         let start = clock();
-        (0..repeats).for_each(|_| work());
+        (0..repeats).for_each(|_| works[i]());
         clock() - start
     };
-    while round(repeats) < 2e6 {
-        repeats *= 2;
+    let repeats: [u32; N] = from_fn(|i| {
+        let mut repeats = 1;
+        while round(i, repeats) < 2e6 {
+            repeats *= 2;
+        }
+        repeats
+    });
+    let mut best = [f64::INFINITY; N];
+    for _ in 0..12 {
+        best = from_fn(|i| best[i].min(round(i, repeats[i])));
     }
-    let best = (0..12).map(|_| round(repeats)).fold(f64::INFINITY, f64::min);
-    best / (repeats as usize * calls) as f64
+    from_fn(|i| best[i] / (repeats[i] as usize * calls) as f64)
 }
 
 /// All answers agree, or the times mean nothing.
@@ -123,45 +131,28 @@ fn measure(n: usize, k: u32, spread: bool) -> Row {
     let tables = tables(n, spread);
     tables.iter().for_each(|table| compare(table, k));
     let lists: Vec<Vec<Job>> = tables.iter().map(|table| jobs(table)).collect();
-    let (mut finishes, mut room, mut pattern) = ([0; MOST_JOBS], [0; MOST_JOBS], vec![0; n]);
-    let (finishes, room) = (&mut finishes[..n], &mut room[..n]);
+    let mut pattern = vec![0; n];
     pattern[0] = k;
-    let library_judge = time(TABLES, || {
-        for table in &tables {
-            black_box(library_judge(black_box(table), k, finishes, room));
-        }
-    });
-    let plain_judge = time(TABLES, || {
-        for jobs in &lists {
-            black_box(plain::judge(black_box(jobs), k as usize, finishes));
-        }
-    });
-    let exact = time(TABLES, || {
-        for jobs in &lists {
-            black_box(plain::exact(black_box(jobs), k as usize));
-        }
-    });
+    let [mut a, mut b, mut c, mut d, mut e, mut room] = [[0; MOST_JOBS]; 6];
+    let [judge, plain_judge, exact, schedule, plain_schedule] = times(
+        TABLES,
+        [
+            &mut || tables.iter().for_each(|table| { black_box(library_judge(black_box(table), k, &mut a[..n], &mut room[..n])); }),
+            &mut || lists.iter().for_each(|jobs| { black_box(plain::judge(black_box(jobs), k as usize, &mut b[..n])); }),
+            &mut || lists.iter().for_each(|jobs| { black_box(plain::exact(black_box(jobs), k as usize)); }),
+            &mut || tables.iter().for_each(|table| { black_box(library_schedule(black_box(table), &pattern, &mut c[..n])); }),
+            &mut || lists.iter().for_each(|jobs| plain::schedule(black_box(jobs), &pattern, black_box(&mut d[..n]))),
+        ],
+    );
     // One table, and once where that already takes long.
+    let mut every = || plain::every_pattern(black_box(&lists[0]), k, black_box(&mut e[..n]));
     let every_pattern = (patterns(n, k) <= MOST_PATTERNS).then(|| {
         let start = clock();
-        plain::every_pattern(black_box(&lists[0]), k, finishes);
+        every();
         let once = clock() - start;
-        if once > 4e6 { once } else { time(1, || plain::every_pattern(black_box(&lists[0]), k, finishes)) }
+        if once > 4e6 { once } else { times(1, [&mut every])[0] }
     });
-    let library_schedule = time(TABLES, || {
-        for table in &tables {
-            black_box(library_schedule(black_box(table), &pattern, finishes));
-        }
-    });
-    let plain_schedule = time(TABLES, || {
-        for jobs in &lists {
-            plain::schedule(black_box(jobs), &pattern, finishes);
-            black_box(&finishes);
-        }
-    });
-    let times = [
-        Some(library_judge), Some(plain_judge), Some(exact), every_pattern, Some(library_schedule), Some(plain_schedule),
-    ];
+    let times = [Some(judge), Some(plain_judge), Some(exact), every_pattern, Some(schedule), Some(plain_schedule)];
     Row { k, n, times }
 }
 
@@ -205,7 +196,7 @@ fn main() {
         println!("growth: time for n over time for half as many jobs");
         for pair in rows.windows(2).filter(|pair| pair[0].k == pair[1].k) {
             let [judge, plain, exact, every, schedule, plain_schedule] =
-                std::array::from_fn(|i| ratio(pair[1].times[i], pair[0].times[i]));
+                from_fn(|i| ratio(pair[1].times[i], pair[0].times[i]));
             let Row { k, n, .. } = &pair[1];
             println!("{k:>2} {n:>2} |{judge:>11}{plain:>11}{exact:>11}{every:>13} |{schedule:>11}{plain_schedule:>11}");
         }

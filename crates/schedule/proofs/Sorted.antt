@@ -11,17 +11,15 @@ use borrow.Author.Tests.{ltb-true, ltb-false}
 use Rattle.jobs.specs.Below.{some}
 use Rattle.jobs.specs.Table.{jobs}
 use Rattle.jobs.specs.Urgency.{urgent}
-use Rattle.jobs.specs.Orders.{theJob, theRank, byUrgency}
+use Rattle.jobs.specs.Orders.{theRank, byUrgency}
 use Rattle.jobs.proofs.Below.{by-cases, none-all}
 use Rattle.jobs.proofs.Urgency.{urgency-order}
 use Rattle.jobs.proofs.Orders.{Rearranges, urgency-rearranges}
 use Rattle.frame.specs.Schedule.{foremost}
 use Rattle.frame.proofs.Foremost.{is-foremost}
+use Rattle.schedule.specs.Events.{jobOf}
 
--- the job at a rank of the sorted copy, and the rank of a job
-abbrev pub jobOf : List ℕ → ℕ → ℕ
-jobOf table rank = getD (byUrgency table .job) rank (theJob 0) .0
-
+-- the rank of a job
 abbrev rankOf : List ℕ → ℕ → ℕ
 rankOf table job = getD (byUrgency table .rank) job (theRank 0) .0
 

@@ -9,7 +9,7 @@ use lib.Dec.{leb, ltb}
 use Rattle.jobs.specs.Below.{some}
 use Rattle.jobs.specs.Table.{jobs, ready}
 use Rattle.jobs.specs.Refusals.{first, tableRefusals}
-use Rattle.jobs.specs.Orders.{filled}
+use Rattle.jobs.specs.Orders.{filled, theJob, byUrgency}
 use Rattle.jobs.specs.declared.Check.the-variants.{Fine}
 use Rattle.frame.specs.Schedule.{foremost}
 use Rattle.frame.specs.Latest.{AtMost}
@@ -27,18 +27,22 @@ pub record ReadyTimes (table times : List ℕ) : Type 0 where
   pub few : jobs table ≤ 64
   pub copied : times ≡ filled (λ x. x) (jobs table) (ready table)
 
+-- The job at an urgency rank.
+abbrev pub jobOf : List ℕ → ℕ → ℕ
+jobOf table rank = getD (byUrgency table .job) rank (theJob 0) .0
+
 -- No job becomes ready at this time or later.
 abbrev pub never : ℕ
 never = 10000000
 
--- The sooner of a time and a ready time, if that comes after t.
-abbrev pub sooner : ℕ → ℕ → ℕ → ℕ
-sooner next ready t = cond (ltb t ready && ltb ready next) ready next
+-- A ready time that comes after t.
+abbrev pub toCome : ℕ → ℕ → ℕ
+toCome ready t = cond (ltb t ready) ready never
 
 -- The next time after t at which one of the first n jobs becomes ready.
 unfoldable pub nextReady : List ℕ → ℕ → ℕ → ℕ
 nextReady table t zero = never
-nextReady table t (suc n) = sooner (nextReady table t n) (ready table n) t
+nextReady table t (suc n) = min (nextReady table t n) (toCome (ready table n) t)
 
 -- Whether a job waits at time t, by what is left to each job.
 unfoldable pub stillWaits : List ℕ → List ℕ → ℕ → ℕ → Bool

@@ -3,16 +3,17 @@ use jobs::Check;
 use jobs::Job;
 use jobs::first_of;
 ghost use mathlib.Core.Path.{_≡_};
-ghost use Prim.Native.Nat.{_<_, _≤_};
+ghost use Prim.Native.Nat.{_<_, _≤_, min};
 ghost use mathlib.Core.Bool.{_&&_};
 ghost use lib.Dec.{leb, ltb};
 ghost use lib.ListN.{length};
+ghost use Rattle.jobs.specs.Arrays.{Holds};
 ghost use Rattle.jobs.specs.Table.{jobs};
 ghost use Rattle.jobs.specs.Refusals.{first};
-ghost use Rattle.jobs.specs.Orders.{filled, byUrgency};
+ghost use Rattle.jobs.specs.Orders.{filled};
 ghost use Rattle.frame.specs.Schedule.{need, finish};
 ghost use Rattle.schedule.specs.Asks.{Scheduled, fill, scheduleRefusals, faultFreeFinishes, shortBuffer, wrongPattern, tooManyFailures};
-ghost use Rattle.schedule.specs.Events.{Accepted, ReadyTimes, sooner, nextReady, stillWaits, Chosen, Fits, Ran, Allows, Passes};
+ghost use Rattle.schedule.specs.Events.{Accepted, ReadyTimes, jobOf, toCome, nextReady, stillWaits, Chosen, Fits, Ran, Allows, Passes};
 
 // No job becomes ready at this time or later.
 const NEVER: u32 = 10_000_000;
@@ -112,17 +113,18 @@ fn needs(table: &[u32], pattern: &[u32]) -> [u32; 64]
     left
 }
 
-// The sooner of a time and a ready time, if that is still to come.
-fn sooner(next: u32, ready: u32, time: u32) -> u32
-    ensures { λ r. ⌜ r ≡ sooner next ready time ⌝ }
+// A ready time that is still to come; NEVER, if it is past.
+fn to_come(ready: u32, time: u32) -> u32
+    ensures { λ r. ⌜ r ≡ toCome ready time ⌝ }
 {
-    if ready <= time {
-        return next;
-    }
-    if next <= ready {
-        return next;
-    }
-    ready
+    if time < ready { ready } else { NEVER }
+}
+
+// The sooner of two times.
+fn sooner(x: u32, y: u32) -> u32
+    ensures { λ r. ⌜ r ≡ min x y ⌝ }
+{
+    if x < y { x } else { y }
 }
 
 // The ready times, by job number, which every event reads.
@@ -149,7 +151,7 @@ fn next_ready(table: &[u32], times: &[u32], time: u32) -> u32
     let mut next = NEVER;
     let mut i = 0;
     while i < n {
-        next = sooner(next, times[i], time);
+        next = sooner(next, to_come(times[i], time));
         i += 1;
     }
     next
@@ -162,19 +164,33 @@ fn waits(ready: u32, left: u32, time: u32) -> bool
     ready <= time && 0 < left
 }
 
+// The job numbers by urgency rank, in a list that can be lent: a copy of it for each event would take longer than the event.
+fn by_rank(table: &[u32]) -> [usize; 64]
+    ensures { λ r. ⌜ Holds 64 r 64 (jobOf (now (table .entry))) ⌝ }
+{
+    let ranking = jobs::by_urgency(table);
+    let mut numbers = [0; 64];
+    let mut rank = 0;
+    while rank < 64 {
+        let job = ranking.job[rank];
+        numbers[rank] = job.0;
+        rank += 1;
+    }
+    numbers
+}
+
 // The most urgent waiting job: the first that waits of the jobs sorted by urgency.
-fn pick(table: &[u32], sorted: [Job; 64], times: &[u32], left: &[u32], time: u32) -> Choice
+fn pick(table: &[u32], sorted: &[usize], times: &[u32], left: &[u32], time: u32) -> Choice
     requires { ⌜ ReadyTimes (now table) (now times) ⌝ }
-    requires { ⌜ (sorted ≡ byUrgency (now table) .job) × (length (now left) ≡ 64) ⌝ }
+    requires { ⌜ Holds 64 (now sorted) 64 (jobOf (now table)) × (length (now left) ≡ 64) ⌝ }
     ensures { λ r. ⌜ Chosen (now (table .entry)) (stillWaits (now (table .entry)) (now (left .entry)) time) r ⌝ }
 {
     let n = jobs::jobs(table);
     let mut rank = 0;
     while rank < n {
-        let job = sorted[rank];
-        let at = job.0;
+        let at = sorted[rank];
         if waits(times[at], left[at], time) {
-            return Choice::Runs(job);
+            return Choice::Runs(Job(at));
         }
         rank += 1;
     }
@@ -220,8 +236,7 @@ fn walk(table: &[u32], pattern: &[u32], finishes: &mut [u32])
     requires { ⌜ jobs (now table) ≤ length (now finishes) ⌝ }
     ensures { λ r. ⌜ now (finishes .exit) ≡ fill (jobs (now (table .entry))) (finish (now (table .entry)) (now (pattern .entry))) (now (finishes .entry)) ⌝ }
 {
-    let ranking = jobs::by_urgency(table);
-    let sorted = ranking.job;
+    let sorted = by_rank(table);
     let times = ready_times(table);
     let mut left = needs(table, pattern);
     let mut clock = Clock {
@@ -230,7 +245,7 @@ fn walk(table: &[u32], pattern: &[u32], finishes: &mut [u32])
     };
     while clock.going {
         let next = next_ready(table, &times, clock.time);
-        let choice = pick(table, sorted, &times, &left, clock.time);
+        let choice = pick(table, &sorted, &times, &left, clock.time);
         clock = event(choice, clock.time, next, &mut left, finishes);
     }
 }

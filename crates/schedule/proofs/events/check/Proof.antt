@@ -1,4 +1,4 @@
--- `frame::events::check` meets its contract: the first refusal of the parts, in their order, is the first of all.
+-- `schedule::events::check` meets its contract: the first refusal of the parts, in their order, is the first of all.
 -- Assumes nothing.
 use mathlib.Core.Path.{sym}
 use Rattle.schedule.proofs.Asks.{schedule-refusals}

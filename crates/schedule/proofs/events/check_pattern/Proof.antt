@@ -1,4 +1,4 @@
--- `frame::events::check_pattern` meets its contract: it makes the definition's test.
+-- `schedule::events::check_pattern` meets its contract: it makes the definition's test.
 -- Assumes nothing.
 use lib.ListN.{length}
 use borrow.Author.Tests.{eq-eqb, ne-eqb}

@@ -1,4 +1,4 @@
--- `frame::events::check_room` meets its contract: it makes the definition's test.
+-- `schedule::events::check_room` meets its contract: it makes the definition's test.
 -- Assumes nothing.
 use borrow.Author.Tests.{lt-ltb, le-ltb}
 use Rattle.jobs.specs.Table.{jobs}

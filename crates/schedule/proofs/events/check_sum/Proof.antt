@@ -1,4 +1,4 @@
--- `frame::events::check_sum` meets its contract. The counts passed and those from i on come to the sum of the pattern, and those passed to at
+-- `schedule::events::check_sum` meets its contract. The counts passed and those from i on come to the sum of the pattern, and those passed to at
 -- most 8; a count that is more than what is then missing to 8 takes the sum over 8, whatever comes after it.
 -- Assumes nothing.
 use Prim.Native.Nat.{_+_, _≤_, _-_}

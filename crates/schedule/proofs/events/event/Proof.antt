@@ -1,4 +1,4 @@
--- `frame::events::event` meets its contract: each choice has its own answer, and a run is that of `run_on`.
+-- `schedule::events::event` meets its contract: each choice has its own answer, and a run is that of `run_on`.
 -- Assumes nothing.
 use mathlib.Core.Path.{refl}
 use Rattle.schedule.proofs.events.event.Statement.{statement}

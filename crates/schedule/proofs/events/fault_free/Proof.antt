@@ -1,4 +1,4 @@
--- `frame::events::fault_free` meets its contract: a pattern of zeros is not refused, and its schedule is the one without faults. Assumes nothing.
+-- `schedule::events::fault_free` meets its contract: a pattern of zeros is not refused, and its schedule is the one without faults. Assumes nothing.
 use Prim.Native.Nat.{ℕ}
 use native.Mathlib.Omega.{arith}
 use mathlib.Core.Path.{refl, sym}

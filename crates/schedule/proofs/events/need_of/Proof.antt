@@ -1,4 +1,4 @@
--- `frame::events::need_of` meets its contract. The recoveries of one job come to at most 800,000, so neither the product nor the sum wraps.
+-- `schedule::events::need_of` meets its contract. The recoveries of one job come to at most 800,000, so neither the product nor the sum wraps.
 -- Assumes nothing.
 use Prim.Native.Nat.{_*_, _≤_}
 use native.Mathlib.Omega.{arith}

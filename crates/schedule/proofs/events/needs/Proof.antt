@@ -1,4 +1,4 @@
--- `frame::events::needs` meets its contract. After j turns the first j entries are the needs of the first j jobs, and the others are zeros.
+-- `schedule::events::needs` meets its contract. After j turns the first j entries are the needs of the first j jobs, and the others are zeros.
 -- Assumes nothing.
 use Prim.Native.Nat.{_≤_, _<_, _-_}
 use mathlib.Core.Path.{_≡_, refl}

@@ -1,10 +1,10 @@
--- `frame::events::next_ready` meets its contract. After i jobs the time is the next ready time of the first i, as the definition takes them.
+-- `schedule::events::next_ready` meets its contract. After i jobs the time is the next ready time of the first i, as the definition takes them.
 -- Assumes nothing.
-use Prim.Native.Nat.{_≤_, _<_, _-_}
+use Prim.Native.Nat.{_≤_, _<_, _-_, min}
 use mathlib.Core.Path.{_≡_, ap, _∙_}
 use native.Mathlib.Omega.{arith}
 use Rattle.jobs.specs.Table.{jobs}
-use Rattle.schedule.specs.Events.{sooner, nextReady}
+use Rattle.schedule.specs.Events.{toCome, nextReady}
 use Rattle.schedule.proofs.NextReady.{times-long, time-of, next-none, next-more}
 use Rattle.schedule.proofs.events.next_ready.Statement.{statement}
 use Rattle.schedule.proofs.events.next_ready.Tie as tie
@@ -24,13 +24,16 @@ loop-holds c = (omega arith, next-none (c .before .before .before .args .table .
 is-job : (c : tie.In-loop Inv-loop μ-loop) → c .before .loop .i < jobs (c .before .before .before .before .before .args .table .now)
 is-job c = omega (arith, c .before .before .jobs .ensures)
 
-mul-sooner : tie.Need-mul-sooner Inv-loop μ-loop
-mul-sooner c = omega (arith, is-job c, c .before .before .before .before .before .pre .few)
+mul-to-come : tie.Need-mul-to-come Inv-loop μ-loop
+mul-to-come c = omega (arith, is-job c, c .before .before .before .before .before .pre .few)
 
-shared-slice-read-sooner : tie.Need-shared-slice-read-sooner Inv-loop μ-loop
-shared-slice-read-sooner c =
+shared-slice-read-to-come : tie.Need-shared-slice-read-to-come Inv-loop μ-loop
+shared-slice-read-to-come c =
     let s = c .before .before .before .before .before .before in
     omega (arith, is-job (c .before), s .pre .few, times-long (s .args .table .now) (s .args .times .now) (s .pre))
+
+to-come-requires : tie.Need-to-come-requires Inv-loop μ-loop
+to-come-requires c κs = tt
 
 sooner-requires : tie.Need-sooner-requires Inv-loop μ-loop
 sooner-requires c κs = tt
@@ -43,11 +46,12 @@ loop-less c = omega arith
 
 loop-again : tie.Need-loop-again Inv-loop μ-loop
 loop-again c =
-    let s = c .before .before .before .before .before .before .before in
-    let l = c .before .before .before .loop in (
+    let inside = c .before .before .before in
+    let l = inside .before .loop in
+    let s = inside .before .before .before .before .before in (
       omega arith,
       c .sooner .ensures
-          ∙ ap (λ r. sooner (l .next) r (s .args .time)) (time-of (s .args .table .now) (s .args .times .now) (s .pre) (l .i) (is-job (c .before .before)))
+          ∙ ap (min (l .next)) (c .before .to-come .ensures ∙ ap (λ r. toCome r (s .args .time)) (time-of (s .args .table .now) (s .args .times .now) (s .pre) (l .i) (is-job inside)))
           ∙ next-more (s .args .table .now) (s .args .time) (l .i) (l .next) (l .inv .1),
     )
 
@@ -66,8 +70,9 @@ next-ready-spec =
     μ-loop
     jobs-requires
     loop-holds
-    mul-sooner
-    shared-slice-read-sooner
+    mul-to-come
+    shared-slice-read-to-come
+    to-come-requires
     sooner-requires
     add-i
     loop-less

@@ -1,4 +1,4 @@
--- `frame::events::ready_times` meets its contract. After j turns the first j entries are the ready times of the first j jobs, and the others are
+-- `schedule::events::ready_times` meets its contract. After j turns the first j entries are the ready times of the first j jobs, and the others are
 -- zeros. Assumes nothing.
 use Prim.Native.Nat.{_≤_, _<_, _-_}
 use mathlib.Core.Path.{_≡_, refl}

@@ -1,4 +1,4 @@
--- `frame::events::run_on` meets its contract: the job's end is after the next ready time, or not.
+-- `schedule::events::run_on` meets its contract: the job's end is after the next ready time, or not.
 -- Assumes nothing.
 use Prim.Native.Nat.{_+_, _-_}
 use mathlib.Core.Path.{_≡_, refl, ap}

@@ -1,4 +1,4 @@
--- `frame::events::schedule` meets its contract: the check gives the refusal, before the buffer is touched; where it is fine the walk fills the buffer.
+-- `schedule::events::schedule` meets its contract: the check gives the refusal, before the buffer is touched; where it is fine the walk fills the buffer.
 -- Assumes nothing.
 use mathlib.Core.Path.{sym, _∙_}
 use lib.ListN.{length}

@@ -1,4 +1,4 @@
--- `frame::events::waits` meets its contract: it makes the definition's two tests.
+-- `schedule::events::waits` meets its contract: it makes the definition's two tests.
 -- Assumes nothing.
 use borrow.Author.Tests.{le-leb, lt-leb}
 use Rattle.schedule.proofs.events.waits.Statement.{statement}

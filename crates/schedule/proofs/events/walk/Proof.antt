@@ -1,7 +1,7 @@
--- `frame::events::walk` meets its contract. At each event what is left and what is written are the definition's (`Stands`); an event
+-- `schedule::events::walk` meets its contract. At each event what is left and what is written are the definition's (`Stands`); an event
 -- keeps that and is one of at most 2n + 1 (`turns`), and when no event is left every job's finish is written.
 -- Assumes nothing.
-use mathlib.Core.Path.{sym, ap}
+use mathlib.Core.Path.{sym}
 use Rattle.jobs.proofs.Refusals.{good}
 use Rattle.schedule.proofs.NextReady.{times-long}
 use Rattle.schedule.proofs.Walk.{Stands, turns, stands-first, allowed, stands-next, turns-next, stands-last}
@@ -14,50 +14,53 @@ Inv-loop table pattern finishes₀ sorted times left₀ clock₀ finishes left c
 abbrev μ-loop : tie.MeasureT-loop
 μ-loop table pattern finishes₀ sorted times left₀ clock₀ finishes left clock = turns table clock left
 
-by-urgency-requires : tie.Need-by-urgency-requires Inv-loop μ-loop
-by-urgency-requires c κs = tt
+by-rank-requires : tie.Need-by-rank-requires Inv-loop μ-loop
+by-rank-requires c κs = tt
 
 ready-times-requires : tie.Need-ready-times-requires Inv-loop μ-loop
-ready-times-requires c κs = good (c .before .before .before .before .before .args .table .now) (c .before .before .before .before .before .pre .0 .fine) .few-jobs
+ready-times-requires c κs = let s = c .before .before .before .before in good (s .args .table .now) (s .pre .0 .fine) .few-jobs
 
 needs-requires : tie.Need-needs-requires Inv-loop μ-loop
-needs-requires c κs = c .before .before .before .before .before .before .pre .0
+needs-requires c κs = c .before .before .before .before .before .pre .0
 
 loop-holds : tie.Need-loop-holds Inv-loop μ-loop
 loop-holds c =
-    let s = c .before .before .before .before .before .before .before in
+    let s = c .before .before .before .before .before .before in
     rw (c .needs .ensures) (stands-first (s .args .table .now) (s .args .pattern .now) (s .args .finishes .now) (s .pre .0))
 
 slice-aggregate-next-ready : tie.Need-slice-aggregate-next-ready Inv-loop μ-loop
 slice-aggregate-next-ready c =
     let r = c .before .before .before .before .ready-times in
-    sym (times-long (c .before .before .before .before .before .before .before .before .before .before .args .table .now) (r .result) (r .ensures))
+    sym (times-long (c .before .before .before .before .before .before .before .before .before .args .table .now) (r .result) (r .ensures))
 
 next-ready-requires : tie.Need-next-ready-requires Inv-loop μ-loop
 next-ready-requires c κs = c .before .before .before .before .ready-times .ensures
 
 slice-aggregate-pick : tie.Need-slice-aggregate-pick Inv-loop μ-loop
-slice-aggregate-pick c =
-    let r = c .before .before .before .before .before .before .ready-times in
-    sym (times-long (c .before .before .before .before .before .before .before .before .before .before .before .before .args .table .now) (r .result) (r .ensures))
+slice-aggregate-pick c = sym (c .before .before .before .before .before .before .before .by-rank .ensures .long)
 
 slice-aggregate-pick-2 : tie.Need-slice-aggregate-pick-2 Inv-loop μ-loop
-slice-aggregate-pick-2 c = sym (c .before .before .before .before .before .loop .inv .along .all)
+slice-aggregate-pick-2 c =
+    let r = c .before .before .before .before .before .before .before .ready-times in
+    sym (times-long (c .before .before .before .before .before .before .before .before .before .before .before .before .args .table .now) (r .result) (r .ensures))
+
+slice-aggregate-pick-3 : tie.Need-slice-aggregate-pick-3 Inv-loop μ-loop
+slice-aggregate-pick-3 c = sym (c .before .before .before .before .before .before .loop .inv .along .all)
 
 pick-requires : tie.Need-pick-requires Inv-loop μ-loop
 pick-requires c κs =
-    let ranked = ap (λ r. r .job) (c .before .before .before .before .before .before .before .before .before .by-urgency .ensures) in
-    (c .before .before .before .before .before .before .before .ready-times .ensures, (ranked, c .before .before .before .before .before .loop .inv .along .all))
+    let ready = c .before .before .before .before .before .before .before .before in
+    (ready .ready-times .ensures, (ready .before .by-rank .ensures, c .before .before .before .before .before .before .loop .inv .along .all))
 
 slice-aggregate-event : tie.Need-slice-aggregate-event Inv-loop μ-loop
-slice-aggregate-event c = sym (c .before .before .before .before .before .before .before .loop .inv .along .all)
+slice-aggregate-event c = sym (c .before .before .before .before .before .before .before .before .loop .inv .along .all)
 
 event-requires : tie.Need-event-requires Inv-loop μ-loop
 event-requires c κs =
     let s = c .before .before .before .before .before .before .before .before .before .before .before .before .before .before .before .before in
     let a = s .args in
-    let l = c .before .before .before .before .before .before .before .before .loop in
-    let going = c .before .before .before .before .before .before .before .loop-test .taken in
+    let l = c .before .before .before .before .before .before .before .before .before .loop in
+    let going = c .before .before .before .before .before .before .before .before .loop-test .taken in
     let p = c .before .before .pick in
     allowed (a .table .now) (a .pattern .now) (a .finishes .now) (s .pre .0) (s .pre .1) (l .clock) (l .left) (l .finishes) (l .inv) going
     (p .result) (p .ensures)
@@ -66,9 +69,9 @@ loop-less : tie.Need-loop-less Inv-loop μ-loop
 loop-less c =
     let s = c .before .before .before .before .before .before .before .before .before .before .before .before .before .before .before .before .before .before .before .before in
     let a = s .args in
-    let l = c .before .before .before .before .before .before .before .before .before .before .before .before .loop in
-    let going = c .before .before .before .before .before .before .before .before .before .before .before .loop-test .taken in
-    let n = c .before .before .before .before .before .before .before .before .before .next-ready in
+    let l = c .before .before .before .before .before .before .before .before .before .before .before .before .before .loop in
+    let going = c .before .before .before .before .before .before .before .before .before .before .before .before .loop-test .taken in
+    let n = c .before .before .before .before .before .before .before .before .before .before .next-ready in
     let p = c .before .before .before .before .before .before .pick in
     let e = c .before .before .before .event in
     turns-next (a .table .now) (a .pattern .now) (a .finishes .now) (s .pre .0) (s .pre .1) (l .clock) (l .left) (l .finishes) (l .inv) going
@@ -78,9 +81,9 @@ loop-again : tie.Need-loop-again Inv-loop μ-loop
 loop-again c =
     let s = c .before .before .before .before .before .before .before .before .before .before .before .before .before .before .before .before .before .before .before .before in
     let a = s .args in
-    let l = c .before .before .before .before .before .before .before .before .before .before .before .before .loop in
-    let going = c .before .before .before .before .before .before .before .before .before .before .before .loop-test .taken in
-    let n = c .before .before .before .before .before .before .before .before .before .next-ready in
+    let l = c .before .before .before .before .before .before .before .before .before .before .before .before .before .loop in
+    let going = c .before .before .before .before .before .before .before .before .before .before .before .before .loop-test .taken in
+    let n = c .before .before .before .before .before .before .before .before .before .before .next-ready in
     let p = c .before .before .before .before .before .before .pick in
     let e = c .before .before .before .event in
     stands-next (a .table .now) (a .pattern .now) (a .finishes .now) (s .pre .0) (s .pre .1) (l .clock) (l .left) (l .finishes) (l .inv) going
@@ -91,7 +94,7 @@ same-length c = c .before .loop .inv .along .long
 
 returns : tie.Need-returns Inv-loop μ-loop
 returns c =
-    let s = c .before .before .before .before .before .before .before .before .before in
+    let s = c .before .before .before .before .before .before .before .before in
     let a = s .args in
     let l = c .before .loop in
     stands-last (a .table .now) (a .pattern .now) (a .finishes .now) (s .pre .0) (s .pre .1) (l .clock) (l .left) (l .finishes) (l .inv) (c .loop-test .left)
@@ -102,7 +105,7 @@ walk-spec =
     (tie.spec
     Inv-loop
     μ-loop
-    by-urgency-requires
+    by-rank-requires
     ready-times-requires
     needs-requires
     loop-holds
@@ -110,6 +113,7 @@ walk-spec =
     next-ready-requires
     slice-aggregate-pick
     slice-aggregate-pick-2
+    slice-aggregate-pick-3
     pick-requires
     slice-aggregate-event
     event-requires

@@ -1,4 +1,4 @@
--- `frame::idle::check_free_slots` meets its contract: the definition's list is the refusals of the table and then 9.
+-- `schedule::idle::check_free_slots` meets its contract: the definition's list is the refusals of the table and then 9.
 -- Assumes nothing.
 use mathlib.Core.Path.{sym}
 use Rattle.schedule.proofs.Asks.{free-slots-refusals}

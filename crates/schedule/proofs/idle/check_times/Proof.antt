@@ -1,4 +1,4 @@
--- `frame::check_times` meets its contract: both test a and b for being over 10,000,000.
+-- `schedule::idle::check_times` meets its contract: both test a and b for being over 10,000,000.
 -- Assumes nothing.
 use mathlib.Core.Path.{_≡_}
 use mathlib.Core.Logic.{⊎-elim}

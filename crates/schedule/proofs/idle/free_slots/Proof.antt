@@ -1,4 +1,4 @@
--- `frame::free_slots` meets its contract: where nothing is refused the table is in range, and the count is that of `idle_between`.
+-- `schedule::idle::free_slots` meets its contract: where nothing is refused the table is in range, and the count is that of `idle_between`.
 -- Assumes nothing.
 use mathlib.Core.Path.{sym, ap, _∙_}
 use borrow.Author.Needs.{needs}

@@ -1,4 +1,4 @@
--- `frame::idle_before` meets its contract. After i turns `until` is when the first i jobs in the order of ready times are done and `runs` the sum of
+-- `schedule::idle::idle_before` meets its contract. After i turns `until` is when the first i jobs in the order of ready times are done and `runs` the sum of
 -- their runs (Served); where the walk stops, these are the jobs ready before t, and what they leave idle is known (idle-before).
 -- Assumes nothing.
 use Prim.Native.Nat.{_+_, _≤_, _<_, _-_}

@@ -1,4 +1,4 @@
--- `frame::idle_between` meets its contract: the free slots from a on are what the idle slots before b are more than those before a.
+-- `schedule::idle::idle_between` meets its contract: the free slots from a on are what the idle slots before b are more than those before a.
 -- Assumes nothing.
 use Prim.Native.Nat.{_+_}
 use mathlib.Core.Path.{_≡_, sym}
