@@ -157,7 +157,8 @@ fn judge_frame(table: &[u32], k: usize, finishes: &mut [u32], pattern: &mut [u32
     let n = jobs::jobs(table);
     let order = jobs::by_ready(table);
     let ranking = jobs::by_urgency(table);
-    let turns = by_turn(table, order, ranking, n);
+    let mut turns = [0; 256];
+    by_turn(table, order, ranking, n, &mut turns);
     let late = all_latest(table, order, &turns, n, k);
     let verdict = verdict_on(table, ranking, &late, n, k);
     let counts = counts_for(verdict, table, order, &turns, n, k);
@@ -189,7 +190,8 @@ fn hand_out(table: &[u32], k: usize, job: Job, pattern: &mut [u32])
     let n = jobs::jobs(table);
     let order = jobs::by_ready(table);
     let ranking = jobs::by_urgency(table);
-    let turns = by_turn(table, order, ranking, n);
+    let mut turns = [0; 256];
+    by_turn(table, order, ranking, n, &mut turns);
     let counts = counts_of(table, order, &turns, n, k, job);
     fill_from(pattern, &counts, n);
 }

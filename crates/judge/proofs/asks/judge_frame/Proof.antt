@@ -2,7 +2,8 @@
 -- unwound for it; the two buffers are filled from arrays. Assumes nothing.
 use native.Mathlib.Nat.{le-trans, le-of-eq}
 use Prim.Native.Nat.{ℕ, _≤_}
-use mathlib.Core.Path.{_∙_, ap}
+use mathlib.Core.Path.{refl, _∙_, ap}
+use mathlib.Core.List.{List}
 use Rattle.jobs.specs.Arrays.{values}
 use Rattle.jobs.proofs.Refusals.{good}
 use Rattle.frame.specs.Latest.{latest}
@@ -15,9 +16,13 @@ use Rattle.judge.proofs.asks.judge_frame.Tie as tie
 few : (c : tie.After-jobs) → c .jobs .result ≤ 64
 few c = let start = c .before .before .before .before in le-trans (le-of-eq (c .jobs .ensures)) (good (start .args .table .now) (start .pre .0) .few-jobs)
 
-turns : (c : tie.After-by-turn) → Turns (c .before .before .before .before .before .before .before .args .table .now) (c .before .before .before .jobs .result) (c .by-turn .result)
+-- the list that the walks read
+abbrev turned : tie.After-by-turn → List ℕ
+turned c = c .by-turn .last .1 .1 .1 .1 .0
+
+turns : (c : tie.After-by-turn) → Turns (c .before .before .before .before .before .before .before .before .args .table .now) (c .before .before .before .before .jobs .result) (turned c)
 turns c =
-    let jobs = c .before .before .before in
+    let jobs = c .before .before .before .before in
     record { fine = jobs .before .before .before .before .pre .0; all = jobs .jobs .ensures; few = few jobs; holds = c .by-turn .ensures }
 
 jobs-requires : tie.Need-jobs-requires
@@ -31,33 +36,33 @@ by-urgency-requires c κs = tt
 
 by-turn-requires : tie.Need-by-turn-requires
 by-turn-requires c κs =
-    let jobs = c .before .before in
-    (c .before .by-ready .ensures, (c .by-urgency .ensures, (jobs .jobs .ensures, few jobs)))
+    let jobs = c .before .before .before in
+    (c .before .before .by-ready .ensures, (c .before .by-urgency .ensures, (jobs .jobs .ensures, few jobs, refl)))
 
 all-latest-requires : tie.Need-all-latest-requires
 all-latest-requires c κs =
     let by-turn = c .before in
-    (by-turn .before .before .by-ready .ensures, (turns by-turn, by-turn .before .before .before .before .before .before .before .pre .1 .0))
+    (by-turn .before .before .before .by-ready .ensures, (turns by-turn, by-turn .before .before .before .before .before .before .before .before .pre .1 .0))
 
 verdict-on-requires : tie.Need-verdict-on-requires
 verdict-on-requires c κs =
-    let by-urgency = c .before .before .before .before in
+    let by-urgency = c .before .before .before .before .before in
     let jobs = by-urgency .before .before in
     (by-urgency .by-urgency .ensures, (c .before .all-latest .ensures, (jobs .jobs .ensures, few jobs)))
 
 counts-for-requires : tie.Need-counts-for-requires
 counts-for-requires c κs =
     let by-turn = c .before .before .before .before .before in
-    (by-turn .before .before .by-ready .ensures, (turns by-turn, (by-turn .before .before .before .before .before .before .before .pre .1 .0, c .before .verdict-on .ensures)))
+    (by-turn .before .before .before .by-ready .ensures, (turns by-turn, (by-turn .before .before .before .before .before .before .before .before .pre .1 .0, c .before .verdict-on .ensures)))
 
 fill-from-requires : tie.Need-fill-from-requires
 fill-from-requires c κs =
-    let jobs = c .before .before .before .before .before .before .before .before .before .before .before in
+    let jobs = c .before .before .before .before .before .before .before .before .before .before .before .before in
     (le-trans (le-of-eq (jobs .jobs .ensures)) (jobs .before .before .before .before .pre .1 .1), few jobs)
 
 fill-from-requires-2 : tie.Need-fill-from-requires-2
 fill-from-requires-2 c κs =
-    let jobs = c .before .before .before .before .before .before .before .before .before .before .before .before .before .before .before .before in
+    let jobs = c .before .before .before .before .before .before .before .before .before .before .before .before .before .before .before .before .before in
     (le-trans (le-of-eq (jobs .jobs .ensures)) (jobs .before .before .before .before .pre .1 .2), few jobs)
 
 same-length : tie.Need-same-length
@@ -71,7 +76,7 @@ returns c =
     let counts = c .before .before .before .before .before .before .before .before .before .before in
     let verdict = counts .before .before in
     let late = verdict .before .before in
-    let jobs = late .before .before .before .before .before in
+    let jobs = late .before .before .before .before .before .before in
     let start = jobs .before .before .before .before in
     let a = start .args in (
       verdict .verdict-on .ensures,
