@@ -13,10 +13,10 @@ use jobs::Check;
 use jobs::check_faults;
 use jobs::check_table;
 use jobs::first_of;
+use jobs::given;
 use jobs::jobs;
 use jobs::recovery;
 use schedule::Free;
-use schedule::check_room;
 use schedule::fault_free;
 use schedule::free_slots;
 ghost use mathlib.Core.Path.{_≡_};
@@ -34,8 +34,9 @@ ghost use Rattle.delays.specs.Ask.{delaysRefusals, Delayed};
 fn check_delays(table: &[u32], k: u32, room: usize) -> Check
     ensures { λ r. ⌜ r ≡ first (delaysRefusals (now (table .entry)) k room) ⌝ }
 {
+    let n = jobs(table);
     let faults = check_faults(k);
-    let short = check_room(table, room);
+    let short = given(room < n, 5, n);
     first_of(check_table(table), first_of(faults, short))
 }
 

@@ -1,15 +1,9 @@
 // The row of nine numbers: for each count w of faults from 0 to 8 the most extra work just after a finish.
+use jobs::larger;
 ghost use mathlib.Core.Path.{_≡_};
-ghost use Prim.Native.Nat.{_-_, max};
+ghost use Prim.Native.Nat.{_-_};
 ghost use Rattle.jobs.specs.Arrays.{Holds, Fit, values};
 ghost use Rattle.delays.specs.Rows.{nextRow};
-
-// The larger of two amounts of work.
-pub(crate) fn larger(a: u32, b: u32) -> u32
-    ensures { λ r. ⌜ r ≡ max a b ⌝ }
-{
-    if a < b { b } else { a }
-}
 
 // What is left of some work after free slots, not below zero.
 pub(crate) fn less(work: u32, free: u32) -> u32

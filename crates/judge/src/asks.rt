@@ -10,6 +10,7 @@ use jobs::Arrivals;
 use jobs::Check;
 use jobs::Job;
 use jobs::first_of;
+use jobs::given;
 ghost use mathlib.Core.Path.{_≡_};
 ghost use Prim.Native.Nat.{_<_, _≤_};
 ghost use lib.ListN.{length};
@@ -23,44 +24,14 @@ ghost use Rattle.frame.specs.Latest.{latest, verdict as verdictOf};
 ghost use Rattle.schedule.specs.Asks.{fill};
 ghost use Rattle.judge.specs.Turns.{jobAtTurn, Turns};
 ghost use Rattle.judge.specs.Walk.{Unwound, CountsFor};
-ghost use Rattle.judge.specs.Asks.{shortPattern, noSuchJob, judgeRefusals, patternRefusals, Handed, HandedFor, Judging, Reaching};
-
-// Refusal 6, of a pattern buffer.
-fn check_pattern_room(table: &[u32], room: usize) -> Check
-    ensures { λ r. ⌜ r ≡ shortPattern (now (table .entry)) room ⌝ }
-{
-    let n = jobs::jobs(table);
-    if room < n {
-        return Check::Refused {
-            number: 6,
-            place: n,
-        };
-    }
-    Check::Fine
-}
-
-// Refusal 8.
-fn check_job(table: &[u32], job: u32) -> Check
-    ensures { λ r. ⌜ r ≡ noSuchJob (now (table .entry)) job ⌝ }
-{
-    let n = jobs::jobs(table);
-    if (job as usize) < n {
-        return Check::Fine;
-    }
-    Check::Refused {
-        number: 8,
-        place: 0,
-    }
-}
+ghost use Rattle.judge.specs.Asks.{judgeRefusals, patternRefusals, Handed, HandedFor, Judging, Reaching};
 
 // The refusals of judge, in their order: 1, 2, 3, 4, 5, 6.
 fn check_judge(table: &[u32], k: u32, finishes: usize, pattern: usize) -> Check
     ensures { λ r. ⌜ r ≡ first (judgeRefusals (now (table .entry)) k finishes pattern) ⌝ }
 {
-    let last = first_of(
-        schedule::check_room(table, finishes),
-        check_pattern_room(table, pattern),
-    );
+    let n = jobs::jobs(table);
+    let last = first_of(given(finishes < n, 5, n), given(pattern < n, 6, n));
     first_of(
         jobs::check_table(table),
         first_of(jobs::check_faults(k), last),
@@ -71,7 +42,8 @@ fn check_judge(table: &[u32], k: u32, finishes: usize, pattern: usize) -> Check
 fn check_one(table: &[u32], k: u32, job: u32, pattern: usize) -> Check
     ensures { λ r. ⌜ r ≡ first (patternRefusals (now (table .entry)) k job pattern) ⌝ }
 {
-    let last = first_of(check_job(table, job), check_pattern_room(table, pattern));
+    let n = jobs::jobs(table);
+    let last = first_of(given(!((job as usize) < n), 8, 0), given(pattern < n, 6, n));
     first_of(
         jobs::check_table(table),
         first_of(jobs::check_faults(k), last),

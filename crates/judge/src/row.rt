@@ -1,14 +1,9 @@
 // The row of nine numbers: for each count of faults from 0 to 8 the latest end of the work so far.
+use jobs::larger;
 ghost use mathlib.Core.Path.{_≡_};
-ghost use Prim.Native.Nat.{_<_, _^_, max};
+ghost use Prim.Native.Nat.{_<_, _^_};
 ghost use Rattle.jobs.specs.Arrays.{Holds, Fit, values};
 ghost use Rattle.judge.specs.Rows.{again, enters, spread};
-
-pub(crate) fn larger(a: u32, b: u32) -> u32
-    ensures { λ r. ⌜ r ≡ max a b ⌝ }
-{
-    if a < b { b } else { a }
-}
 
 // One fault more, that costs `recovery`; an end of 0 is over and stays so.
 pub(crate) fn once_more(recovery: u32, end: u32) -> u32

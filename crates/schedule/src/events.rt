@@ -2,6 +2,7 @@
 use jobs::Check;
 use jobs::Job;
 use jobs::first_of;
+use jobs::given;
 ghost use mathlib.Core.Path.{_≡_};
 ghost use Prim.Native.Nat.{_<_, _≤_, min};
 ghost use mathlib.Core.Bool.{_&&_};
@@ -12,7 +13,7 @@ ghost use Rattle.jobs.specs.Table.{jobs};
 ghost use Rattle.jobs.specs.Refusals.{first};
 ghost use Rattle.jobs.specs.Orders.{filled};
 ghost use Rattle.frame.specs.Schedule.{need, finish};
-ghost use Rattle.schedule.specs.Asks.{Scheduled, fill, scheduleRefusals, faultFreeFinishes, shortBuffer, wrongPattern, tooManyFailures};
+ghost use Rattle.schedule.specs.Asks.{Scheduled, fill, scheduleRefusals, faultFreeFinishes, tooManyFailures};
 ghost use Rattle.schedule.specs.Events.{Accepted, ReadyTimes, jobOf, toCome, nextReady, stillWaits, Chosen, Fits, Ran, Allows, Passes};
 
 // No job becomes ready at this time or later.
@@ -28,20 +29,6 @@ enum Choice {
 struct Clock {
     time: u32,
     going: bool,
-}
-
-// Refusal 6.
-fn check_pattern(table: &[u32], pattern: &[u32]) -> Check
-    ensures { λ r. ⌜ r ≡ wrongPattern (now (table .entry)) (now (pattern .entry)) ⌝ }
-{
-    let n = jobs::jobs(table);
-    if pattern.len() != n {
-        return Check::Refused {
-            number: 6,
-            place: n,
-        };
-    }
-    Check::Fine
 }
 
 // Refusal 7. The sum is left as soon as it is over 8, so it never overflows.
@@ -63,28 +50,15 @@ fn check_sum(pattern: &[u32]) -> Check
     Check::Fine
 }
 
-// Refusal 5.
-pub fn check_room(table: &[u32], room: usize) -> Check
-    ensures { λ r. ⌜ r ≡ shortBuffer (now (table .entry)) room ⌝ }
-{
-    let n = jobs::jobs(table);
-    if room < n {
-        return Check::Refused {
-            number: 5,
-            place: n,
-        };
-    }
-    Check::Fine
-}
-
 // The refusals of schedule, in their order: 1, 2, 3, 6, 7, 5.
 fn check(table: &[u32], pattern: &[u32], room: usize) -> Check
     ensures { λ r. ⌜ r ≡ first (scheduleRefusals (now (table .entry)) (now (pattern .entry)) room) ⌝ }
 {
+    let n = jobs::jobs(table);
     let rows = jobs::check_table(table);
-    let counts = check_pattern(table, pattern);
+    let counts = given(pattern.len() != n, 6, n);
     let sum = check_sum(pattern);
-    let space = check_room(table, room);
+    let space = given(room < n, 5, n);
     first_of(rows, first_of(counts, first_of(sum, space)))
 }
 

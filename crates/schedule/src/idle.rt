@@ -7,10 +7,10 @@ use jobs::by_ready;
 use jobs::check_table;
 use jobs::first_of;
 use jobs::jobs;
+use jobs::larger;
 use jobs::ready;
 use jobs::run;
 ghost use mathlib.Core.Path.{_≡_};
-ghost use Prim.Native.Nat.{max};
 ghost use Rattle.jobs.specs.Below.{count};
 ghost use Rattle.jobs.specs.Refusals.{first, tableRefusals};
 ghost use Rattle.jobs.specs.Orders.{byReady};
@@ -20,16 +20,6 @@ ghost use Rattle.schedule.specs.Asks.{tooLate, freeSlotsRefusals, freeSl
 
 // The latest time that may be asked.
 const LAST_TIME: u32 = 10_000_000;
-
-// The larger of two times.
-fn larger(x: u32, y: u32) -> u32
-    ensures { λ r. ⌜ r ≡ max x y ⌝ }
-{
-    if x < y {
-        return y;
-    }
-    x
-}
 
 // The idle slots before t. The jobs ready before t, served in the order of ready times, are done at `until`; up to then, or up to t if
 // that is later, the slots that their runs do not fill are idle, and none of those is after t.

@@ -2,7 +2,6 @@
 mod events;
 mod idle;
 
-pub use events::check_room;
 pub use events::fault_free;
 pub use events::schedule;
 pub use idle::free_slots;

@@ -5,11 +5,14 @@ use Rattle.delays.proofs.Promise.{delays-refusals}
 use Rattle.delays.proofs.check_delays.Statement.{statement}
 use Rattle.delays.proofs.check_delays.Tie as tie
 
+jobs-requires : tie.Need-jobs-requires
+jobs-requires c κs = tt
+
 check-faults-requires : tie.Need-check-faults-requires
 check-faults-requires c κs = tt
 
-check-room-requires : tie.Need-check-room-requires
-check-room-requires c κs = tt
+given-requires : tie.Need-given-requires
+given-requires c κs = tt
 
 check-table-requires : tie.Need-check-table-requires
 check-table-requires c κs = tt
@@ -22,13 +25,14 @@ first-of-requires-2 c κs = tt
 
 returns : tie.Need-returns
 returns c =
-    let a = c .before .before .before .before .before .before .args in
+    let a = c .before .before .before .before .before .before .before .args in
     rw (
       c .first-of2 .ensures,
       c .before .first-of .ensures,
       c .before .before .check-table .ensures,
-      c .before .before .before .check-room .ensures,
       c .before .before .before .before .check-faults .ensures,
+      c .before .before .before .given .ensures,
+      c .before .before .before .before .before .jobs .ensures,
     )
     (sym (delays-refusals (a .table .now) (a .k) (a .room)))
 
@@ -36,8 +40,9 @@ pub check-delays-spec : {M : Type 1} → statement M
 check-delays-spec =
     tie.close
     (tie.spec
+    jobs-requires
     check-faults-requires
-    check-room-requires
+    given-requires
     check-table-requires
     first-of-requires
     first-of-requires-2

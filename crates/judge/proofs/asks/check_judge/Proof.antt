@@ -5,11 +5,14 @@ use Rattle.judge.proofs.Answers.{judge-refusals}
 use Rattle.judge.proofs.asks.check_judge.Statement.{statement}
 use Rattle.judge.proofs.asks.check_judge.Tie as tie
 
-check-room-requires : tie.Need-check-room-requires
-check-room-requires c κs = tt
+jobs-requires : tie.Need-jobs-requires
+jobs-requires c κs = tt
 
-check-pattern-room-requires : tie.Need-check-pattern-room-requires
-check-pattern-room-requires c κs = tt
+given-requires : tie.Need-given-requires
+given-requires c κs = tt
+
+given-requires-2 : tie.Need-given-requires-2
+given-requires-2 c κs = tt
 
 first-of-requires : tie.Need-first-of-requires
 first-of-requires c κs = tt
@@ -28,15 +31,16 @@ first-of-requires-3 c κs = tt
 
 returns : tie.Need-returns
 returns c =
-    let a = c .before .before .before .before .before .before .before .before .args in
+    let a = c .before .before .before .before .before .before .before .before .before .args in
     rw (
       c .first-of3 .ensures,
       c .before .first-of2 .ensures,
       c .before .before .before .before .first-of .ensures,
       c .before .before .before .check-table .ensures,
       c .before .before .check-faults .ensures,
-      c .before .before .before .before .before .before .check-room .ensures,
-      c .before .before .before .before .before .check-pattern-room .ensures,
+      c .before .before .before .before .before .before .given .ensures,
+      c .before .before .before .before .before .given2 .ensures,
+      c .before .before .before .before .before .before .before .jobs .ensures,
     )
     (sym (judge-refusals (a .table .now) (a .k) (a .finishes) (a .pattern)))
 
@@ -44,8 +48,9 @@ pub check-judge-spec : {M : Type 1} → statement M
 check-judge-spec =
     tie.close
     (tie.spec
-    check-room-requires
-    check-pattern-room-requires
+    jobs-requires
+    given-requires
+    given-requires-2
     first-of-requires
     check-table-requires
     check-faults-requires
