@@ -6,7 +6,7 @@ use crate::reference;
 
 /// A table of n jobs with small times: deadlines tight or loose, often equal, at times before R + C.
 pub fn small_table(dice: &Dice, n: usize) -> Vec<u32> {
-    let ready = dice.pick(&[0, 3, 10, 25]);
+    let ready = dice.pick(&[0, 3, 10, 25]) * (1 + n as u32 / 8);
     let longest = dice.pick(&[1, 3, 6]);
     let recovery = dice.pick(&[0, 1, 4, 9]);
     let loose = dice.pick(&[0, 4, 12, 40]);

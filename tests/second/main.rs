@@ -120,7 +120,7 @@ fn tables(count: &mut Count, dice: &Dice) {
 }
 
 /// Tables with too many patterns to try each. Every latest finish is reached by the pattern handed out for that job, and passed under
-/// none of many other patterns.
+/// none of many other patterns; their schedules and free slots agree.
 fn large_tables(count: &mut Count, dice: &Dice) {
     for _ in 0..LARGE_TABLES {
         let (n, k) = (dice.within(11, 64) as usize, dice.within(3, 8));
@@ -155,6 +155,9 @@ fn large_tables(count: &mut Count, dice: &Dice) {
             }
             let passes = finishes(&pattern).iter().zip(latest).any(|(finish, latest)| finish > latest);
             count.check(!passes, || format!("passed under {pattern:?}: {judge}"));
+            count.compare(&Call { pattern, times: dice.words(n), ..Call::new(Ask::Schedule, &table) });
+            let (a, b) = (dice.within(0, 300), dice.within(0, 900));
+            count.compare(&Call { a, b, ..Call::new(Ask::FreeSlots, &table) });
         }
     }
 }
