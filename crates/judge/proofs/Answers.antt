@@ -22,11 +22,11 @@ use Rattle.frame.specs.declared.Verdict.{Verdict}
 use Rattle.frame.specs.declared.Verdict.the-variants.{Sound, Miss}
 use Rattle.frame.proofs.Verdicts.{miss-names}
 use Rattle.schedule.specs.Asks.{shortBuffer, fill}
-use Rattle.judge.specs.Walk.{Unwound, CountsFor}
+use Rattle.latest.proofs.Latest.{handed-reaches}
+use Rattle.judge.specs.Notes.{Unwound, CountsFor}
 use Rattle.judge.specs.Asks.{shortPattern, noSuchJob, judgeRefusals, patternRefusals, Unless, Handed, HandedFor, Judging, Reaching}
 use Rattle.judge.specs.declared.Judged.{Judged}
 use Rattle.judge.specs.declared.Judged.the-variants.{With}
-use Rattle.judge.proofs.Latest.{handed-reaches}
 use Rattle.judge.proofs.Unwinding.{zeros-at}
 
 -- ---- the refusals

@@ -27,13 +27,13 @@ use Rattle.jobs.proofs.Arrays.{holds-same, holds-zeros}
 use Rattle.frame.specs.Latest.{latest}
 use Rattle.frame.proofs.Work.{arrival, arrivals}
 use Rattle.frame.proofs.Finish.{atLeast}
-use Rattle.judge.specs.Rows.{enters, turned, picks, picked}
-use Rattle.judge.specs.Turns.{jobAtTurn, rankOf, turnWord, Turns, turnAt, Walks, onTurn, Next, Skips}
-use Rattle.judge.specs.Walk.{Walk, entered, row, stops, stop, faultsAt, walkOf}
+use Rattle.latest.proofs.Steps.{enters, turned, picks, picked}
+use Rattle.latest.proofs.Walk.{jobAtTurn, Walk, entered, row, stops, stop, faultsAt, walkOf}
+use Rattle.latest.proofs.Rows.{spread-same, spread-bound, picks-same}
+use Rattle.latest.proofs.Latest.{latest-walks}
+use Rattle.judge.specs.Turns.{rankOf, turnWord, Turns, turnAt, Walks, onTurn, Next, Skips}
 use Rattle.judge.specs.declared.trail.Picks.{Picks}
 use Rattle.judge.specs.declared.turns.Turn.{Turn}
-use Rattle.judge.proofs.Rows.{spread-same, spread-bound, picks-same}
-use Rattle.judge.proofs.Latest.{latest-walks}
 
 -- ---- the orders that are handed over
 

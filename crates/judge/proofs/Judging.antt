@@ -24,7 +24,7 @@ use Rattle.frame.specs.Latest.{latest, verdict}
 use Rattle.frame.specs.declared.Verdict.the-variants.{Sound, Miss}
 use Rattle.frame.proofs.Work.{arrivals}
 use Rattle.frame.proofs.Verdicts.{misses, misses-is, foremost-named, meets-sound}
-use Rattle.judge.specs.Turns.{jobAtTurn}
+use Rattle.latest.proofs.Walk.{jobAtTurn}
 
 -- ---- latest finishes by turn
 

@@ -1,5 +1,3 @@
-pub mod Rows
-pub mod Latest
 pub mod ByTurn
 pub mod Unwinding
 pub mod Judging

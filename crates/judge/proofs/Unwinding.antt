@@ -12,11 +12,11 @@ use borrow.Author.Tests.{ltb-true, ltb-false, lt-ltb, le-ltb, eqb-true, eqb-fals
 use Rattle.jobs.specs.Table.{jobs}
 use Rattle.jobs.proofs.Below.{by-cases, least-le}
 use Rattle.frame.proofs.Work.{arrivals, turn}
-use Rattle.judge.specs.Turns.{jobAtTurn}
-use Rattle.judge.specs.Walk.{Walk, stops, stop, faultsAt, unwind, best, walkOf, TrailOf, Unwound}
+use Rattle.latest.proofs.Walk.{jobAtTurn, Walk, stops, stop, faultsAt, unwind, best, walkOf}
+use Rattle.latest.proofs.Rows.{faults-within}
+use Rattle.judge.specs.Notes.{TrailOf, Unwound}
 use Rattle.judge.specs.declared.trail.Picks.{Picks}
 use Rattle.judge.specs.declared.trail.Trail.{Trail}
-use Rattle.judge.proofs.Rows.{faults-within}
 
 -- past the turns that are unwound there are no faults
 unwind-past : (walk : Walk) (p w q : ℕ) → p ≤ q → unwind walk p w q ≡ 0

@@ -22,8 +22,9 @@ ghost use Rattle.jobs.specs.Arrays.{values};
 ghost use Rattle.jobs.specs.declared.Check.the-variants.{Fine};
 ghost use Rattle.frame.specs.Latest.{latest, verdict as verdictOf};
 ghost use Rattle.schedule.specs.Asks.{fill};
-ghost use Rattle.judge.specs.Turns.{jobAtTurn, Turns};
-ghost use Rattle.judge.specs.Walk.{Unwound, CountsFor};
+ghost use Rattle.latest.proofs.Walk.{jobAtTurn};
+ghost use Rattle.judge.specs.Turns.{Turns};
+ghost use Rattle.judge.specs.Notes.{Unwound, CountsFor};
 ghost use Rattle.judge.specs.Asks.{judgeRefusals, patternRefusals, Handed, HandedFor, Judging, Reaching};
 
 // The refusals of judge, in their order: 1, 2, 3, 4, 5, 6.

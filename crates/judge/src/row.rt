@@ -3,7 +3,7 @@ use jobs::larger;
 ghost use mathlib.Core.Path.{_≡_};
 ghost use Prim.Native.Nat.{_<_, _^_};
 ghost use Rattle.jobs.specs.Arrays.{Holds, Fit, values};
-ghost use Rattle.judge.specs.Rows.{again, enters, spread};
+ghost use Rattle.latest.proofs.Steps.{again, enters, spread};
 
 // One fault more, that costs `recovery`; an end of 0 is over and stays so.
 pub(crate) fn once_more(recovery: u32, end: u32) -> u32

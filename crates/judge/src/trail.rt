@@ -17,9 +17,10 @@ ghost use lib.Dec.{leb};
 ghost use Rattle.jobs.specs.Table.{jobs};
 ghost use Rattle.jobs.specs.Orders.{byReady};
 ghost use Rattle.jobs.specs.Arrays.{Holds, Fit, values};
-ghost use Rattle.judge.specs.Rows.{spread, picks, turned, picked};
-ghost use Rattle.judge.specs.Turns.{jobAtTurn, Walks};
-ghost use Rattle.judge.specs.Walk.{TrailOf, Unwound};
+ghost use Rattle.latest.proofs.Steps.{spread, picks, turned, picked};
+ghost use Rattle.latest.proofs.Walk.{jobAtTurn};
+ghost use Rattle.judge.specs.Turns.{Walks};
+ghost use Rattle.judge.specs.Notes.{TrailOf, Unwound};
 
 // For each count of faults, how many of them are on the job.
 pub(crate) struct Picks {

@@ -7,7 +7,7 @@ use Prim.Native.Nat.{ℕ, _-_, _≤_, _<_, zero-le}
 use mathlib.Core.Path.{_≡_, sym, _∙_}
 use Rattle.jobs.proofs.Arrays.{offset-fits, next-fits, fewer-left}
 use Rattle.frame.proofs.Work.{arrivals, turn}
-use Rattle.judge.specs.Turns.{jobAtTurn}
+use Rattle.latest.proofs.Walk.{jobAtTurn}
 use Rattle.judge.proofs.ByTurn.{turn-job}
 use Rattle.judge.proofs.asks.turn_of.Statement.{statement}
 use Rattle.judge.proofs.asks.turn_of.Tie as tie

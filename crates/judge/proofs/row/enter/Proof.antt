@@ -2,7 +2,7 @@
 use native.Mathlib.Omega.{arith}
 use mathlib.Core.Path.{sym, _∙_, ap}
 use Prim.Native.Nat.{ℕ, _+_}
-use Rattle.judge.proofs.Rows.{enters-over, enters-past, enters-before}
+use Rattle.latest.proofs.Rows.{enters-over, enters-past, enters-before}
 use Rattle.judge.proofs.row.enter.Statement.{statement}
 use Rattle.judge.proofs.row.enter.Tie as tie
 

@@ -6,7 +6,7 @@ use Prim.Native.Nat.{_-_, _≤_, zero-le}
 use mathlib.Core.Path.{refl}
 use Rattle.jobs.specs.Arrays.{values, Holds}
 use Rattle.jobs.proofs.Arrays.{holds-none, holds-more, holds-to, offset-fits, next-fits, fewer-left}
-use Rattle.judge.specs.Rows.{enters}
+use Rattle.latest.proofs.Steps.{enters}
 use Rattle.judge.proofs.row.entered.Statement.{statement}
 use Rattle.judge.proofs.row.entered.Tie as tie
 

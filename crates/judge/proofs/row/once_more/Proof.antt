@@ -1,8 +1,8 @@
 -- `judge::row::once_more` meets its contract: an end of 0 stays, any other grows by the recovery. Assumes nothing.
 use native.Mathlib.Omega.{arith}
 use mathlib.Core.Path.{sym, ap}
-use Rattle.judge.specs.Rows.{again}
-use Rattle.judge.proofs.Rows.{again-adds}
+use Rattle.latest.proofs.Steps.{again}
+use Rattle.latest.proofs.Rows.{again-adds}
 use Rattle.judge.proofs.row.once_more.Statement.{statement}
 use Rattle.judge.proofs.row.once_more.Tie as tie
 

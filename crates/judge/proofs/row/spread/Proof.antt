@@ -8,8 +8,8 @@ use mathlib.Core.Path.{refl, _∙_, sym, ap}
 use lib.ListN.{replicate}
 use Rattle.jobs.specs.Arrays.{values, Holds}
 use Rattle.jobs.proofs.Arrays.{holds-none, holds-more, holds-to, offset-fits, next-fits, fewer-left, one-below, less-one}
-use Rattle.judge.specs.Rows.{again, spread}
-use Rattle.judge.proofs.Rows.{spread-none, spread-at, spread-again}
+use Rattle.latest.proofs.Steps.{again, spread}
+use Rattle.latest.proofs.Rows.{spread-none, spread-at, spread-again}
 use Rattle.judge.proofs.row.spread.Statement.{statement}
 use Rattle.judge.proofs.row.spread.Tie as tie
 

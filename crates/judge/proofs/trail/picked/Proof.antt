@@ -1,5 +1,5 @@
 -- `judge::trail::picked` meets its contract: the picks are those of the job's spread. Assumes nothing.
-use Rattle.judge.proofs.Rows.{turn-fits-first, turn-fits, turn-picked}
+use Rattle.latest.proofs.Rows.{turn-fits-first, turn-fits, turn-picked}
 use Rattle.judge.proofs.trail.picked.Statement.{statement}
 use Rattle.judge.proofs.trail.picked.Tie as tie
 

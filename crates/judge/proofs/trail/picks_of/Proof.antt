@@ -9,8 +9,8 @@ use lib.Dec.{leb, lit<, lit≤}
 use lib.ListN.{replicate}
 use Rattle.jobs.specs.Arrays.{values, Holds}
 use Rattle.jobs.proofs.Arrays.{holds-more, holds-to, offset-fits, next-fits, fewer-left, one-below, less-one}
-use Rattle.judge.specs.Rows.{again, spread, picks}
-use Rattle.judge.proofs.Rows.{picks-first, picks-at, spread-again, picks-small}
+use Rattle.latest.proofs.Steps.{again, spread, picks}
+use Rattle.latest.proofs.Rows.{picks-first, picks-at, spread-again, picks-small}
 use Rattle.judge.proofs.trail.picks_of.Statement.{statement}
 use Rattle.judge.proofs.trail.picks_of.Tie as tie
 

@@ -7,7 +7,7 @@ use borrow.Author.Needs.{fits-under}
 use Prim.Native.Nat.{_-_, zero-le}
 use mathlib.Core.List.{[]}
 use Rattle.jobs.proofs.Arrays.{offset-fits, less-one}
-use Rattle.judge.specs.Turns.{jobAtTurn}
+use Rattle.latest.proofs.Walk.{jobAtTurn}
 use Rattle.judge.proofs.ByTurn.{turn-job, turn-below}
 use Rattle.judge.proofs.Unwinding.{Unwinding, note-is, note-within, unwinding-none, unwinding-more, unwinding-done, turn-before}
 use Rattle.judge.proofs.trail.unwound.Statement.{statement}

@@ -1,5 +1,4 @@
--- One step of the row: for each count w of faults the latest end of the work so far. The private functions compute by it; no promise
--- of an ask rests on it.
+-- One step of the row: for each count w of faults the latest end of the work so far.
 use Prim.Native.Nat.{ℕ, zero, suc, _+_, max}
 use mathlib.Core.Bool.{Bool, true, false, cond}
 use lib.Dec.{leb}

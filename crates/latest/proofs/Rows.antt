@@ -15,8 +15,8 @@ use Rattle.jobs.specs.Arrays.{Holds, Fit, values}
 use Rattle.jobs.proofs.Below.{by-cases, and-left, and-right, below-suc, total-more, total-le, total-zero, total-add, least-le, least-is, least-holds, before-least, least-cases, least-none}
 use Rattle.jobs.proofs.Arrays.{holds-same}
 use Rattle.frame.proofs.Queue.{ends, halts}
-use Rattle.judge.specs.Rows.{again, enters, spread, turned, picks, picked}
-use Rattle.judge.specs.Walk.{Walk, entered, row, stops, stop, faultsAt, unwind, best}
+use Rattle.latest.proofs.Steps.{again, enters, spread, turned, picks, picked}
+use Rattle.latest.proofs.Walk.{Walk, entered, row, stops, stop, faultsAt, unwind, best}
 
 -- ---- one job's step
 

@@ -20,8 +20,8 @@ use Rattle.frame.proofs.Work.{arrival, turn, arrivals, in-order-of-ready}
 use Rattle.frame.proofs.Finish.{at-least-itself, urgentAt, runsEmpty, finish-law}
 use Rattle.frame.proofs.Bounds.{sum-total}
 use Rattle.frame.proofs.Patterns.{latest-bounds, latest-reached}
-use Rattle.judge.specs.Walk.{Walk, row, stop, best, walkOf}
-use Rattle.judge.proofs.Rows.{endsWith, haltsWith, ends-same, best-few, walk-bounds, walk-reached}
+use Rattle.latest.proofs.Walk.{Walk, row, stop, best, walkOf}
+use Rattle.latest.proofs.Rows.{endsWith, haltsWith, ends-same, best-few, walk-bounds, walk-reached}
 
 -- ---- the walk of a job
 

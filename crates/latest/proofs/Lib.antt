@@ -1,0 +1,4 @@
+pub mod Steps
+pub mod Walk
+pub mod Rows
+pub mod Latest
