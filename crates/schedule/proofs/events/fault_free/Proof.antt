@@ -1,8 +1,7 @@
 -- `schedule::events::fault_free` meets its contract: a pattern of zeros is not refused, and its schedule is the one without faults. Assumes nothing.
-use Prim.Native.Nat.{ℕ}
+use Prim.Native.Nat.{_≤_}
 use native.Mathlib.Omega.{arith}
 use mathlib.Core.Path.{refl, sym}
-use lib.ListN.{replicate}
 use lib.Seq.{length-take-le}
 use Rattle.schedule.proofs.FaultFree.{zeros-finishes, many-finishes}
 use Rattle.schedule.proofs.events.fault_free.Statement.{statement}
@@ -18,7 +17,7 @@ array-share-prefix-none : tie.Need-array-share-prefix-none
 array-share-prefix-none c = omega arith
 
 slice-aggregate-schedule : tie.Need-slice-aggregate-schedule
-slice-aggregate-schedule c = sym (length-take-le (c .before .before .jobs .result) (replicate {A = ℕ} 64 0) (omega arith))
+slice-aggregate-schedule c = let fits : c .before .before .jobs .result ≤ 64 = omega arith in sym (length-take-le (c .before .before .jobs .result) _ fits)
 
 slice-aggregate-schedule-2 : tie.Need-slice-aggregate-schedule-2
 slice-aggregate-schedule-2 c = refl
