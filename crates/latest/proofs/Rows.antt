@@ -1,7 +1,9 @@
 -- Rows bound every pattern and are reached by one.
 --
 -- A pattern with at most w faults on the first p + 1 turns has some f of them on the last of these, and at most w − f before: the row takes the greatest
--- end over all f. An end that is over stays over, so a pattern whose work has halted adds nothing to a later row. In order: one job's step; the row of a walk; no pattern ends later (J1); some pattern ends then (J2). Assumes nothing.
+-- end over all f. An end that is over stays over, so a pattern whose work has halted adds nothing to a later row.
+--
+-- In order: one job's step; the row of a walk; no pattern ends later (J1); some pattern ends then (J2). Assumes nothing.
 use Prim.Native.Nat.{ℕ, zero, suc, _+_, _-_, _*_, _≤_, _<_, zero-le, max}
 use native.Mathlib.Nat.{add-zero, add-suc, suc-mul, sub-zero, suc-sub-suc, add-sub-of-le, lt-irrefl}
 use native.Mathlib.Omega.{arith}
