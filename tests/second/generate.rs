@@ -4,7 +4,7 @@ use crate::call::{Ask, Call};
 use crate::dice::Dice;
 use crate::reference;
 
-/// A table of n jobs with small times: deadlines tight or loose, often equal, at times before R + C.
+/// A table of n jobs with small times: ready times that spread with n, deadlines tight or loose, often equal, at times before R + C.
 pub fn small_table(dice: &Dice, n: usize) -> Vec<u32> {
     let ready = dice.pick(&[0, 3, 10, 25]) * (1 + n as u32 / 8);
     let longest = dice.pick(&[1, 3, 6]);

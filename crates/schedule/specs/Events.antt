@@ -35,7 +35,7 @@ jobOf table rank = getD (byUrgency table .job) rank (theJob 0) .0
 abbrev pub never : ℕ
 never = 10000000
 
--- A ready time that comes after t.
+-- A ready time, if it comes after t; else never.
 abbrev pub toCome : ℕ → ℕ → ℕ
 toCome ready t = cond (ltb t ready) ready never
 

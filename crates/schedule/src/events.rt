@@ -138,7 +138,7 @@ fn waits(ready: u32, left: u32, time: u32) -> bool
     ready <= time && 0 < left
 }
 
-// The job numbers by urgency rank, in a list that can be lent: a copy of it for each event would take longer than the event.
+// The job numbers by urgency rank, in a list that can be lent, so that no event copies it.
 fn by_rank(table: &[u32]) -> [usize; 64]
     ensures { λ r. ⌜ Holds 64 r 64 (jobOf (now (table .entry))) ⌝ }
 {
