@@ -4,10 +4,11 @@ use Prim.Native.Nat.{ℕ, _+_, _*_, _≤_}
 use native.Mathlib.Omega.{arith}
 use mathlib.Core.Path.{_≡_, refl, sym, ap, _∙_}
 use mathlib.Core.Logic.{_↔_}
-use mathlib.Core.Bool.{true}
+use mathlib.Core.Bool.{true, false}
 use mathlib.Core.List.{List}
 use lib.ListN.{length, take, drop}
 use lib.Seq.{take-at}
+use lib.Dec.{ltb}
 use borrow.Author.Tests.{le-ltb}
 use Rattle.jobs.specs.Table.{rowWords, jobs}
 use Rattle.jobs.specs.Refusals.{first, tableRefusals, tooManyFaults}
@@ -16,9 +17,9 @@ use Rattle.jobs.specs.declared.Check.the-variants.{Fine}
 use Rattle.jobs.proofs.Below.{by-cases}
 use Rattle.jobs.proofs.Refusals.{good}
 use Rattle.jobfile.specs.Bytes.{over}
-use Rattle.jobfile.specs.Meaning.{Meaning, holds, headed, meaning, filled, ReadsTo}
+use Rattle.jobfile.specs.Meaning.{Meaning, holds, refused, headed, meaning, answered, filled, ReadsTo}
 use Rattle.jobfile.specs.declared.Contents.{Contents}
-use Rattle.jobfile.specs.declared.Contents.the-variants.{Jobs}
+use Rattle.jobfile.specs.declared.Contents.the-variants.{Jobs, Refused}
 use Rattle.jobfile.proofs.Walk.{answers-table, good-file}
 use Rattle.jobfile_write.specs.Writing.{fileOf, writeRefusals, reported, written, WritesTo}
 use Rattle.jobfile_write.specs.declared.Written.{Written}
@@ -92,6 +93,19 @@ rows-read file room n k after r =
       fine = read-table-fine file (take (n * rowWords) after) k read;
       few = read-faults-fine file (take (n * rowWords) after) k read;
     }
+
+-- a refusal, with room for every table, is the file's own
+refusal-means : (file : List ℕ) (m : Meaning) → meaning file ≡ m → (number place room : ℕ) → 256 ≤ room → Refused number place ≡ answered m room (length file) → m ≡ refused number place
+refusal-means file (holds table k) e number place room l a =
+    let g = good table (read-table-fine file table k e) in
+    let fits : ltb room (length table) ≡ false = le-ltb room (length table) (omega (arith, g .whole-rows, g .few-jobs)) in
+    let no : Refused number place ≡ Jobs (jobs table) k = rw fits at a in
+    let z : _≡_ {A = ℕ} 0 1 = cc in
+    absurd (omega arith)
+refusal-means file (refused n p) e number place room l a = let x : n ≡ number = cc in let y : p ≡ place = cc in rw (x, y)
+
+pub refusal-read : (file room : List ℕ) (number place : ℕ) (after : List ℕ) → 256 ≤ length room → ReadsTo file room (Refused number place) after → meaning file ≡ refused number place
+refusal-read file room number place after l r = refusal-means file (meaning file) refl number place (length room) l (r .answers)
 
 pub write-what-was-read : (file room : List ℕ) (n k : ℕ) (table : List ℕ) → IsBytes file → ReadsTo file room (Jobs n k) table
     → (buffer : List ℕ) (answer : Written) (after : List ℕ) → WritesTo (take (n * rowWords) table) k buffer answer after → length file + 5 ≤ length buffer

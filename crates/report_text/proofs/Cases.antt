@@ -1,14 +1,14 @@
--- 01's worked report and refusal, proved of the definitions by computing. Assumes nothing.
+-- 01's worked reports, proved of the definitions by computing. Assumes nothing.
 use Prim.Native.Nat.{ℕ}
 use mathlib.Core.Path.{_≡_, refl}
 use mathlib.Core.List.{List, [], _∷_}
-use lib.IntN.{subℕ}
 use Rattle.jobs.specs.Below.{total, count, greatest, some, least}
 use Rattle.jobs.specs.Urgency.{byKey, urgent}
 use Rattle.frame.specs.Schedule.{need, foremost, waits, runs, had, horizon, finish, noFaults}
 use Rattle.frame.specs.Latest.{overPatterns, latest, margin, negative, named, verdict}
 use Rattle.frame.specs.Delays.{faultFree}
-use Rattle.report_text.specs.Report.{ascii, places, decimal, signed, each, lines, refusal}
+use Rattle.text.specs.Text.{ascii, places, decimal, each}
+use Rattle.report_text.specs.Report.{lines}
 
 -- what computes in the cases
 worked : ℕ
@@ -26,13 +26,3 @@ pub case-2 : let table : List ℕ = 0 ∷ 2 ∷ 4 ∷ 1 ∷ [] in lines table 2 
     ≡ ascii "k 2 jobs 1 sound\n0 2 4 0\n"
 unfolding worked
 case-2 = refl
-
--- Case 14 without its last byte.
-pub case-14 : refusal 20 5 ≡ ascii "refused 20 at 5\n"
-unfolding worked
-case-14 = refl
-
--- Numbers of one digit and of more, and below zero.
-pub numbers : (decimal 0 ≡ ascii "0") × (decimal 9 ≡ ascii "9") × (decimal 10 ≡ ascii "10") × (decimal 8200000 ≡ ascii "8200000") × (signed (subℕ 0 8200000) ≡ ascii "-8200000")
-unfolding worked
-numbers = (refl, refl, refl, refl, refl)

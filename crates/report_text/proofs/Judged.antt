@@ -20,8 +20,9 @@ use Rattle.judge.specs.Asks.{judgeRefusals, Judging, HandedFor}
 use Rattle.judge.specs.declared.Judged.{Judged}
 use Rattle.judge.specs.declared.Judged.the-variants.{With}
 use Rattle.judge.proofs.Answers.{judge-refusals}
-use Rattle.report_text.specs.Report.{each, jobLine, jobLines, patternLine, firstLine, lines, Judges}
-use Rattle.report_text.specs.Writing.{Adds, Writes}
+use Rattle.text.specs.Text.{each, Adds}
+use Rattle.report_text.specs.Report.{jobLine, jobLines, patternLine, firstLine, lines, Judges}
+use Rattle.report_text.specs.Writing.{Writes}
 
 each-same : (n : ℕ) (p q : ℕ → List ℕ) → ((i : ℕ) → i < n → p i ≡ q i) → each n p ≡ each n q
 unfolding each

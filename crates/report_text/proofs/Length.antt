@@ -2,21 +2,17 @@
 --
 -- The first line has at most 20 bytes, a job's line 28, since no finish exceeds 8,200,000, and the pattern line 8 and 2 for each of at most 64 jobs: 1,948 in
 -- all. A refusal has a number of two digits and an offset of five. Assumes nothing.
-use Prim.Native.Nat.{ℕ, zero, suc, _+_, _*_, _-_, _/_, _%_, _^_, _≤_, _<_}
-use native.Mathlib.Nat.{suc-mul, mul-le-mul-right}
+use Prim.Native.Nat.{ℕ, _-_, _≤_, _<_}
 use native.Mathlib.Omega.{arith}
-use Prim.Native.String.{String}
 use mathlib.Core.Path.{_≡_, refl, ap, _∙_}
-use mathlib.Core.Bool.{Bool, false}
-use mathlib.Core.List.{List, [], _∷_, _++_}
-use lib.ListN.{length, getD, drop, length-append, List·getD-append}
+use mathlib.Core.Bool.{false}
+use mathlib.Core.List.{List}
+use lib.ListN.{length, getD, drop, List·getD-append}
 use lib.IntN.{subℕ}
 use lib.Dec.{ltb, lit≤, lit<}
 use borrow.Author.Tests.{ltb-true, ltb-false}
-use Rattle.io.specs.Digits.{glyph, digits}
-use Rattle.jobs.specs.Below.{least}
 use Rattle.jobs.specs.Table.{jobs, deadline}
-use Rattle.jobs.proofs.Below.{by-cases, before-least}
+use Rattle.jobs.proofs.Below.{by-cases}
 use Rattle.jobs.proofs.Refusals.{Good, good, not-given}
 use Rattle.frame.specs.Latest.{latest, verdict}
 use Rattle.frame.specs.Schedule.{noFaults}
@@ -31,65 +27,30 @@ use Rattle.jobfile.specs.Bytes.{over}
 use Rattle.jobfile.specs.Meaning.{Meaning, holds, refused, meaning}
 use Rattle.jobfile_laws.proofs.SameBytes.{read-table-fine, read-faults-fine}
 use Rattle.jobfile_laws.proofs.Refused.{refused-in-file}
-use Rattle.report_text.specs.Report.{ascii, places, decimal, labelled, signed, verdictText, firstLine, each, jobLine, jobLines, patternLine, Judges, refusal, mostBytes, Says, laid, Reports}
-use Rattle.report_text.proofs.Digits.{in-time, too-late}
+use Rattle.text.specs.Text.{tooLong, decimal, labelled, signed, mostBytes}
+use Rattle.report_text.specs.Report.{verdictText, firstLine, jobLine, jobLines, patternLine, Judges, Says, Reports}
+use Rattle.text.proofs.Adding.{laid-whole}
+use Rattle.text.proofs.Digits.{signed-above, signed-below}
+use Rattle.text.proofs.Lengths.{Short, word, then, each-short, number-short, label-short, refusal-short}
 
--- ---- pieces
-
--- a text of at most so many bytes
-record Short (text : List ℕ) (bytes : ℕ) : Type 0 where
-  few : length text ≤ bytes
-
-word : (text : String) → Short (ascii text) (length (ascii text))
-word text = record { few = omega arith }
-
-then : {x y : List ℕ} {a b : ℕ} → Short x a → Short y b → Short (x ++ y) (a + b)
-then {x} {y} l h = record { few = omega (arith, length-append x y, l .few, h .few) }
-
-each-short : (n : ℕ) (piece : ℕ → List ℕ) (b : ℕ) → ((i : ℕ) → i < n → Short (piece i) b) → n ≤ 64 → Short (each n piece) (64 * b)
-unfolding each
-each-short n piece b h l = record { few = omega (arith, so-far n (λ i m. h i m), mul-le-mul-right b l) }
-  where
-    so-far : (m : ℕ) → ((i : ℕ) → i < m → Short (piece i) b) → length (each m piece) ≤ m * b
-    so-far zero h = omega arith
-    so-far (suc m) h = omega (arith, length-append (each m piece) (piece m), so-far m (λ i l. h i (omega arith)), h m (omega arith) .few, suc-mul m b)
-
-digits-length : (base count n : ℕ) → length (digits base count n) ≡ count
-digits-length base zero n = refl
-digits-length base (suc count) n = omega (arith, length-append (digits base count (n / base)) (glyph (n % base) ∷ []), digits-length base count (n / base))
-
-number : (n d : ℕ) → d < 20 → n < 10 ^ suc d → Short (decimal n) (suc d)
-unfolding decimal places
-number n d l h =
-    let p : ℕ → Bool = λ i. ltb n (10 ^ suc i) in
-    by-cases (ltb d (least 20 p))
-    (λ e.
-    let no = before-least 20 p d (ltb-true d (least 20 p) e) in
-    let below : 10 ^ suc d ≤ n = ltb-false n (10 ^ suc d) no in
-    absurd (omega arith))
-    (λ e. let few : least 20 p ≤ d = ltb-false d (least 20 p) e in record { few = omega (arith, digits-length 10 (suc (least 20 p)) n) })
-
-label : (text : String) (n d : ℕ) → d < 20 → n < 10 ^ suc d → Short (labelled text n) (length (ascii text) + suc d)
-label text n d l h = then (word text) (number n d l h)
+-- ---- the lines on a table
 
 margin-short : (due late : ℕ) → due ≤ 10000000 → late ≤ 8200000 → Short (signed (subℕ due late)) 8
 margin-short due late l h =
     by-cases (ltb due late)
-    (λ e. rw (too-late due late (ltb-true due late e)) (label "-" (late - due) 6 (lit< tt) (omega arith)))
-    (λ e. rw (in-time due late (ltb-false due late e)) (number (due - late) 7 (lit< tt) (omega arith)))
-
--- ---- the lines on a table
+    (λ e. rw (signed-below due late (ltb-true due late e)) (label-short "-" (late - due) 6 (lit< tt) (omega arith)))
+    (λ e. rw (signed-above due late (ltb-false due late e)) (number-short (due - late) 7 (lit< tt) (omega arith)))
 
 module _ (table : List ℕ) (g : Good table) (k : ℕ) (few : k ≤ 8) where
   job-digits : (job : ℕ) → job < jobs table → Short (decimal job) 2
-  job-digits job l = number job 1 (lit< tt) (omega (arith, g .few-jobs))
+  job-digits job l = number-short job 1 (lit< tt) (omega (arith, g .few-jobs))
 
   early-at-most : (job : ℕ) → job < jobs table → faultFree table job ≤ 8200000
   unfolding faultFree
   early-at-most job l = finish-at-most table (noFaults table) g 0 (omega arith) (zeros-few table) job l
 
   finish-short : (time : ℕ) → time ≤ 8200000 → Short (labelled " " time) 8
-  finish-short time l = label " " time 6 (lit< tt) (omega arith)
+  finish-short time l = label-short " " time 6 (lit< tt) (omega arith)
 
   line-short : (job : ℕ) → job < jobs table → Short (jobLine job (faultFree table job) (latest table k job) (subℕ (deadline table job) (latest table k job))) 28
   line-short job l =
@@ -99,7 +60,7 @@ module _ (table : List ℕ) (g : Good table) (k : ℕ) (few : k ≤ 8) where
       then (then (then finishes (word " ")) margin) (word "\n")
 
   lines-short : Short (jobLines table (faultFree table) (latest table k) (jobs table)) 1792
-  lines-short = each-short (jobs table) _ 28 line-short (g .few-jobs)
+  lines-short = each-short (jobs table) _ 28 64 line-short (g .few-jobs)
 
   verdict-short : (v : Verdict) → verdict table k ≡ v → Short (verdictText v) 8
   verdict-short Sound e = record { few = lit≤ tt }
@@ -107,20 +68,20 @@ module _ (table : List ℕ) (g : Good table) (k : ℕ) (few : k ≤ 8) where
 
   first-short : Short (firstLine k (jobs table) (verdict table k)) 20
   first-short =
-      let faults = label "k " k 0 (lit< tt) (omega arith) in
-      let count = label " jobs " (jobs table) 1 (lit< tt) (omega (arith, g .few-jobs)) in
+      let faults = label-short "k " k 0 (lit< tt) (omega arith) in
+      let count = label-short " jobs " (jobs table) 1 (lit< tt) (omega (arith, g .few-jobs)) in
       then (then (then faults count) (verdict-short (verdict table k) refl)) (word "\n")
 
   pattern-short : (v : Verdict) (buffer pattern : List ℕ) → HandedFor table k v buffer pattern → Short (patternLine (jobs table) v pattern) 136
   pattern-short Sound buffer pattern h = record { few = lit≤ tt }
   pattern-short (Miss job time) buffer pattern h =
-      then (then (word "pattern") (each-short (jobs table) (λ i. labelled " " (getD pattern i 0)) 2 count (g .few-jobs))) (word "\n")
+      then (then (word "pattern") (each-short (jobs table) (λ i. labelled " " (getD pattern i 0)) 2 64 count (g .few-jobs))) (word "\n")
     where
       count : (i : ℕ) → i < jobs table → Short (labelled " " (getD pattern i 0)) 2
       count i l =
           let same : getD pattern i 0 ≡ getD (h .pattern) i 0 =
           ap (λ p. getD p i 0) (h .fills) ∙ List·getD-append (h .pattern) (drop (jobs table) buffer) 0 i (omega (arith, h .atMost .long)) in
-          label " " (getD pattern i 0) 0 (lit< tt) (omega (arith, count-at-most (h .pattern) (jobs table) k (h .atMost) i l))
+          label-short " " (getD pattern i 0) 0 (lit< tt) (omega (arith, count-at-most (h .pattern) (jobs table) k (h .atMost) i l))
 
   judged-short : (text : List ℕ) → Judges table k text → length text ≤ 2048
   judged-short text j =
@@ -129,30 +90,18 @@ module _ (table : List ℕ) (g : Good table) (k : ℕ) (few : k ≤ 8) where
 
 -- ---- every report
 
-refusal-short : (number place : ℕ) → number ≤ 25 → place < 32768 → Short (refusal number place) 20
-refusal-short n place l h =
-    let a = label "refused " n 1 (lit< tt) (omega arith) in
-    let b = label " at " place 4 (lit< tt) (omega arith) in
-    then (then a b) (word "\n")
-
 says-short : (file : List ℕ) (m : Meaning) → meaning file ≡ m → (text : List ℕ) → length file ≤ mostBytes → Says false m text → length text ≤ 2048
 says-short file (refused number place) e text l s =
     let inside = refused-in-file file number place e in
-    omega (arith, ap length s, refusal-short number place (inside .high) (omega (arith, inside .inside)) .few)
+    omega (arith, ap length s, refusal-short number place (omega (arith, inside .high)) (omega (arith, inside .inside)) .few)
 says-short file (holds table k) e text l s =
     judged-short table (good table (read-table-fine file table k e)) k (ltb-false 8 k (not-given _ 4 0 (read-faults-fine file table k e))) text s
 
 pub report-short : (file text : List ℕ) → Says (ltb mostBytes (length file)) (meaning file) text → length text ≤ 2048
 report-short file text s =
     by-cases (ltb mostBytes (length file))
-    (λ e. let long : text ≡ ascii "too long\n" = rw e at s in omega (arith, ap length long))
+    (λ e. let long : text ≡ tooLong = rw e at s in omega (arith, ap length long))
     (λ e. says-short file (meaning file) refl text (ltb-false mostBytes (length file) e) (rw e at s))
-
-laid-whole : (text buffer : List ℕ) → length text ≤ length buffer → laid text buffer ≡ over text buffer
-unfolding laid
-laid-whole [] buffer l = refl
-laid-whole (b ∷ text) [] l = absurd (omega arith)
-laid-whole (b ∷ text) (old ∷ buffer) l = ap (λ rest. b ∷ rest) (laid-whole text buffer (omega arith))
 
 -- A buffer of 2,048 bytes holds the whole report.
 pub report-whole : (file before : List ℕ) (answer : ℕ) (after : List ℕ) → 2048 ≤ length before → (r : Reports file before answer after)

@@ -1,5 +1,3 @@
-pub mod Adding
-pub mod Digits
 pub mod Judged
 pub mod Reporting
 pub mod Length

@@ -10,7 +10,8 @@ use Rattle.frame.specs.Latest.{latest, verdict}
 use Rattle.frame.specs.Delays.{faultFree}
 use Rattle.frame.specs.declared.Verdict.the-variants.{Sound}
 use Rattle.jobfile.specs.Meaning.{Meaning, holds, refused, meaning}
-use Rattle.report_text.specs.Report.{lines, Judges, mostBytes, Says, laid, Reports}
+use Rattle.text.specs.Text.{mostBytes, laid}
+use Rattle.report_text.specs.Report.{lines, Judges, Says, Reports}
 
 -- an input whose report has no pattern line
 abbrev pub NoPattern : Bool → Meaning → Type 0

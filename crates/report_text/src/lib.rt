@@ -3,15 +3,15 @@ use frame::Verdict;
 use jobfile::Contents;
 use jobs::Job;
 use judge::Judged;
-
-mod pieces;
-
-use pieces::put_byte;
-use pieces::put_bytes;
-use pieces::put_decimal;
-use pieces::put_labelled;
-use pieces::put_margin;
-use pieces::put_spaced;
+use text::LF;
+use text::MOST_BYTES;
+use text::put_byte;
+use text::put_bytes;
+use text::put_decimal;
+use text::put_labelled;
+use text::put_refusal;
+use text::put_signed;
+use text::put_too_long;
 ghost use mathlib.Core.Path.{_≡_};
 ghost use Prim.Native.Nat.{_*_, _≤_, _<_};
 ghost use lib.ListN.{length, getD, take};
@@ -19,16 +19,19 @@ ghost use lib.IntN.{subℕ};
 ghost use Rattle.jobs.specs.Table.{rowWords, jobs};
 ghost use Rattle.jobs.specs.Refusals.{first, tableRefusals};
 ghost use Rattle.jobs.specs.declared.Check.the-variants.{Fine};
-ghost use Rattle.report_text.specs.Report.{labelled, decimal, verdictText, firstLine, jobLine, jobLines, each, patternLine, lines, refusal, Judges, Reports};
-ghost use Rattle.report_text.specs.Writing.{Adds, Writes};
-
-// The most bytes that a file may have.
-pub const MOST_BYTES: usize = 32_768;
+ghost use Rattle.text.specs.Text.{labelled, each, Adds};
+ghost use Rattle.report_text.specs.Report.{verdictText, firstLine, jobLine, jobLines, patternLine, lines, Judges, Reports};
+ghost use Rattle.report_text.specs.Writing.{Writes};
 
 // No report is longer.
 pub const MOST_TEXT: usize = 2_048;
 
-const LF: u8 = 10;
+// A number after a space.
+fn put_spaced(text: &mut [u8], at: usize, n: u32) -> usize
+    ensures { λ r. ⌜ Adds (labelled " " n) (now (text .entry)) at (now (text .exit)) r ⌝ }
+{
+    put_labelled(text, at, b" ", n as u64)
+}
 
 // The verdict and the named job, in the first line.
 fn put_verdict(text: &mut [u8], at: usize, verdict: Verdict) -> usize
@@ -58,7 +61,7 @@ fn put_job_line(text: &mut [u8], at: usize, job: Job, early: u32, late: u32, dea
     let after_early = put_spaced(text, after_job, early);
     let after_late = put_spaced(text, after_early, late);
     let before_margin = put_byte(text, after_late, b' ');
-    let end = put_margin(text, before_margin, deadline, late);
+    let end = put_signed(text, before_margin, deadline, late);
     put_byte(text, end, LF)
 }
 
@@ -120,31 +123,6 @@ fn put_pattern_line(
     }
 }
 
-// The number of a refusal that reading gives.
-fn put_number(text: &mut [u8], at: usize, number: u32) -> usize
-    ensures { λ r. ⌜ Adds (decimal number) (now (text .entry)) at (now (text .exit)) r ⌝ }
-{
-    match number {
-        20 => put_bytes(text, at, b"20"),
-        21 => put_bytes(text, at, b"21"),
-        22 => put_bytes(text, at, b"22"),
-        23 => put_bytes(text, at, b"23"),
-        24 => put_bytes(text, at, b"24"),
-        25 => put_bytes(text, at, b"25"),
-        _ => put_decimal(text, at, number as u64),
-    }
-}
-
-// The one line on a refused file.
-fn put_refusal(text: &mut [u8], number: u32, place: usize) -> usize
-    ensures { λ r. ⌜ Adds (refusal number place) (now (text .entry)) 0 (now (text .exit)) r ⌝ }
-{
-    let after_word = put_bytes(text, 0, b"refused ");
-    let after_number = put_number(text, after_word, number);
-    let end = put_labelled(text, after_number, b" at ", place as u64);
-    put_byte(text, end, LF)
-}
-
 // The lines of a report.
 fn put_lines<'a>(
     text: &mut [u8],
@@ -198,11 +176,11 @@ pub fn report(file: &[u8], text: &mut [u8]) -> usize
     ensures { λ r. ⌜ Reports (now (file .entry)) (now (text .entry)) r (now (text .exit)) ⌝ }
 {
     if MOST_BYTES < file.len() {
-        return put_bytes(text, 0, b"too long\n");
+        return put_too_long(text, 0);
     }
     let mut table = [0u32; 256];
     match jobfile::read(file, &mut table) {
-        Contents::Refused { number, place } => put_refusal(text, number, place),
+        Contents::Refused { number, place } => put_refusal(text, 0, number, place),
         Contents::Jobs { n, k } => put_report(text, &table, n, k),
     }
 }

@@ -2,8 +2,8 @@
 use Prim.Native.Nat.{_-_, _≤_}
 use native.Mathlib.Omega.{arith}
 use lib.ListN.{getD}
-use Rattle.report_text.specs.Report.{labelled, each}
-use Rattle.report_text.proofs.Adding.{Grown, each-none, each-more, each-all}
+use Rattle.text.specs.Text.{labelled, each}
+use Rattle.text.proofs.Adding.{Grown, each-none, each-more, each-all}
 use Rattle.report_text.proofs.put_counts.Statement.{statement}
 use Rattle.report_text.proofs.put_counts.Tie as tie
 

@@ -1,5 +1,5 @@
 -- `report_text::put_first_line` meets its contract: its pieces one after the other. Assumes nothing.
-use Rattle.report_text.proofs.Adding.{adds-then}
+use Rattle.text.proofs.Adding.{adds-then}
 use borrow.Author.Needs.{needs}
 use Rattle.report_text.proofs.put_first_line.Statement.{statement}
 use Rattle.report_text.proofs.put_first_line.Tie as tie

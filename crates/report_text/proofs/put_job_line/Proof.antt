@@ -1,5 +1,5 @@
 -- `report_text::put_job_line` meets its contract: its pieces one after the other. Assumes nothing.
-use Rattle.report_text.proofs.Adding.{adds-then}
+use Rattle.text.proofs.Adding.{adds-then}
 use borrow.Author.Needs.{needs}
 use Rattle.report_text.proofs.put_job_line.Statement.{statement}
 use Rattle.report_text.proofs.put_job_line.Tie as tie
@@ -16,8 +16,8 @@ put-spaced-requires-2 c κs = search needs
 put-byte-requires : tie.Need-put-byte-requires
 put-byte-requires c κs = search needs
 
-put-margin-requires : tie.Need-put-margin-requires
-put-margin-requires c κs = search needs
+put-signed-requires : tie.Need-put-signed-requires
+put-signed-requires c κs = search needs
 
 put-byte-requires-2 : tie.Need-put-byte-requires-2
 put-byte-requires-2 c κs = search needs
@@ -40,7 +40,7 @@ returns c =
     (adds-then _ _ _ _ _ _ _ _ (job .put-decimal .ensures) (early .put-spaced .ensures))
     (late .put-spaced2 .ensures))
     (space .put-byte .ensures))
-    (margin .put-margin .ensures))
+    (margin .put-signed .ensures))
     (end .put-byte2 .ensures)
 
 pub put-job-line-spec : {M : Type 1} → statement M
@@ -51,7 +51,7 @@ put-job-line-spec =
     put-spaced-requires
     put-spaced-requires-2
     put-byte-requires
-    put-margin-requires
+    put-signed-requires
     put-byte-requires-2
     same-length
     returns)

@@ -6,8 +6,9 @@ use mathlib.Core.List.{List}
 use lib.ListN.{getD}
 use lib.IntN.{subℕ}
 use Rattle.jobs.specs.Table.{deadline}
-use Rattle.report_text.specs.Report.{jobLine, each}
-use Rattle.report_text.proofs.Adding.{Grown, adds-same, each-none, each-more, each-all}
+use Rattle.text.specs.Text.{each}
+use Rattle.report_text.specs.Report.{jobLine}
+use Rattle.text.proofs.Adding.{Grown, adds-same, each-none, each-more, each-all}
 use Rattle.report_text.proofs.put_job_lines.Statement.{statement}
 use Rattle.report_text.proofs.put_job_lines.Tie as tie
 

@@ -3,7 +3,7 @@ use mathlib.Core.Path.{ap}
 use mathlib.Core.List.{_++_}
 use lib.ListN.{getD}
 use Rattle.report_text.specs.Report.{jobLines, firstLine, patternLine}
-use Rattle.report_text.proofs.Adding.{adds-same, adds-then}
+use Rattle.text.proofs.Adding.{adds-same, adds-then}
 use borrow.Author.Needs.{needs}
 use Rattle.report_text.proofs.put_lines.Statement.{statement}
 use Rattle.report_text.proofs.put_lines.Tie as tie

@@ -1,7 +1,7 @@
 -- `report_text::put_pattern_line` meets its contract: nothing on sound, and on a miss its pieces one after the other. Assumes nothing.
 use mathlib.Core.Path.{sym, ap}
 use Rattle.report_text.specs.Report.{patternLine}
-use Rattle.report_text.proofs.Adding.{adds-none, adds-same, adds-then}
+use Rattle.text.proofs.Adding.{adds-none, adds-same, adds-then}
 use borrow.Author.Needs.{needs}
 use Rattle.report_text.proofs.put_pattern_line.Statement.{statement}
 use Rattle.report_text.proofs.put_pattern_line.Tie as tie

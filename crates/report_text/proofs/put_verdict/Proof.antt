@@ -2,7 +2,7 @@
 use mathlib.Core.Path.{sym, ap}
 use borrow.Author.Needs.{needs}
 use Rattle.report_text.specs.Report.{verdictText}
-use Rattle.report_text.proofs.Adding.{adds-same}
+use Rattle.text.proofs.Adding.{adds-same}
 use Rattle.report_text.proofs.put_verdict.Statement.{statement}
 use Rattle.report_text.proofs.put_verdict.Tie as tie
 

@@ -6,19 +6,16 @@ use borrow.Author.Needs.{needs}
 use Rattle.report_text.proofs.report.Statement.{statement}
 use Rattle.report_text.proofs.report.Tie as tie
 
-slice-aggregate-put-bytes : tie.Need-slice-aggregate-put-bytes
-slice-aggregate-put-bytes c = search needs
-
-put-bytes-requires : tie.Need-put-bytes-requires
-put-bytes-requires c κs = search needs
+put-too-long-requires : tie.Need-put-too-long-requires
+put-too-long-requires c κs = search needs
 
 same-length : tie.Need-same-length
 same-length c = search needs
 
 returns : tie.Need-returns
 returns c =
-    let a = c .before .before .before .before .before .before .before .before .args in
-    reports-too-long (a .file .now) (a .text .now) _ _ (omega arith) (c .before .before .put-bytes .ensures)
+    let a = c .before .before .before .before .before .before .before .args in
+    reports-too-long (a .file .now) (a .text .now) _ _ (omega arith) (c .before .before .put-too-long .ensures)
 
 slice-aggregate-read : tie.Need-slice-aggregate-read
 slice-aggregate-read c = search needs
@@ -68,8 +65,7 @@ pub report-spec : {M : Type 1} → statement M
 report-spec =
     tie.close
     (tie.spec
-    slice-aggregate-put-bytes
-    put-bytes-requires
+    put-too-long-requires
     same-length
     returns
     slice-aggregate-read

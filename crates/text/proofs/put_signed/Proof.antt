@@ -1,12 +1,11 @@
--- `report_text::pieces::put_margin` meets its contract: a margin is what is left until the deadline, or the minus sign and what is missing.
--- Assumes nothing.
+-- `text::put_signed` meets its contract: what is left over, or the minus sign and what is missing. Assumes nothing.
 use native.Mathlib.Omega.{arith}
 use mathlib.Core.Path.{sym}
-use Rattle.report_text.proofs.Adding.{adds-same}
-use Rattle.report_text.proofs.Digits.{in-time, too-late}
+use Rattle.text.proofs.Adding.{adds-same}
+use Rattle.text.proofs.Digits.{signed-above, signed-below}
 use borrow.Author.Needs.{needs}
-use Rattle.report_text.proofs.pieces.put_margin.Statement.{statement}
-use Rattle.report_text.proofs.pieces.put_margin.Tie as tie
+use Rattle.text.proofs.put_signed.Statement.{statement}
+use Rattle.text.proofs.put_signed.Tie as tie
 
 cast-put-decimal : tie.Need-cast-put-decimal
 cast-put-decimal c = search needs
@@ -21,7 +20,7 @@ returns : tie.Need-returns
 returns c =
     let put = c .before .before in
     let a = put .before .before .before .before .args in
-    adds-same _ _ _ _ _ _ (sym (in-time (a .deadline) (a .late) (omega arith))) (put .put-decimal .ensures)
+    adds-same _ _ _ _ _ _ (sym (signed-above (a .number) (a .less) (omega arith))) (put .put-decimal .ensures)
 
 slice-aggregate-put-labelled : tie.Need-slice-aggregate-put-labelled
 slice-aggregate-put-labelled c = search needs
@@ -42,10 +41,10 @@ returns-2 : tie.Need-returns-2
 returns-2 c =
     let put = c .before .before in
     let a = put .before .before .before .before .before .args in
-    adds-same _ _ _ _ _ _ (sym (too-late (a .deadline) (a .late) (omega arith))) (put .put-labelled .ensures)
+    adds-same _ _ _ _ _ _ (sym (signed-below (a .number) (a .less) (omega arith))) (put .put-labelled .ensures)
 
-pub put-margin-spec : {M : Type 1} → statement M
-put-margin-spec =
+pub put-signed-spec : {M : Type 1} → statement M
+put-signed-spec =
     tie.close
     (tie.spec
     cast-put-decimal

@@ -1,8 +1,8 @@
--- `report_text::put_refusal` meets its contract: its pieces one after the other. Assumes nothing.
-use Rattle.report_text.proofs.Adding.{adds-then}
+-- `text::put_refusal` meets its contract: its pieces one after the other. Assumes nothing.
+use Rattle.text.proofs.Adding.{adds-then}
 use borrow.Author.Needs.{needs}
-use Rattle.report_text.proofs.put_refusal.Statement.{statement}
-use Rattle.report_text.proofs.put_refusal.Tie as tie
+use Rattle.text.proofs.put_refusal.Statement.{statement}
+use Rattle.text.proofs.put_refusal.Tie as tie
 
 slice-aggregate-put-bytes : tie.Need-slice-aggregate-put-bytes
 slice-aggregate-put-bytes c = search needs

@@ -1,8 +1,8 @@
--- `report_text::pieces::put_labelled` meets its contract: the label, then the number. Assumes nothing.
-use Rattle.report_text.proofs.Adding.{adds-then}
+-- `text::put_labelled` meets its contract: the label, then the number. Assumes nothing.
+use Rattle.text.proofs.Adding.{adds-then}
 use borrow.Author.Needs.{needs}
-use Rattle.report_text.proofs.pieces.put_labelled.Statement.{statement}
-use Rattle.report_text.proofs.pieces.put_labelled.Tie as tie
+use Rattle.text.proofs.put_labelled.Statement.{statement}
+use Rattle.text.proofs.put_labelled.Tie as tie
 
 put-bytes-requires : tie.Need-put-bytes-requires
 put-bytes-requires c κs = search needs

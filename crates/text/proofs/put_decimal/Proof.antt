@@ -1,11 +1,11 @@
--- `report_text::pieces::put_decimal` meets its contract: the digits that the kit's `io` gives are the fewest that hold the number. Assumes nothing.
+-- `text::put_decimal` meets its contract: the digits that the kit's `io` gives are the fewest that hold the number. Assumes nothing.
 use native.Mathlib.Omega.{arith}
 use mathlib.Core.Path.{_∙_}
-use Rattle.report_text.proofs.Adding.{adds-same}
-use Rattle.report_text.proofs.Digits.{digits-are-decimal}
+use Rattle.text.proofs.Adding.{adds-same}
+use Rattle.text.proofs.Digits.{digits-are-decimal}
 use borrow.Author.Needs.{needs}
-use Rattle.report_text.proofs.pieces.put_decimal.Statement.{statement}
-use Rattle.report_text.proofs.pieces.put_decimal.Tie as tie
+use Rattle.text.proofs.put_decimal.Statement.{statement}
+use Rattle.text.proofs.put_decimal.Tie as tie
 
 decimal-requires : tie.Need-decimal-requires
 decimal-requires c κs = search needs

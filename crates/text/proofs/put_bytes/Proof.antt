@@ -1,11 +1,11 @@
--- `report_text::pieces::put_bytes` meets its contract: after i turns the first i bytes are added. Assumes nothing.
+-- `text::put_bytes` meets its contract: after i turns the first i bytes are added. Assumes nothing.
 use Prim.Native.Nat.{_-_, _≤_}
 use native.Mathlib.Omega.{arith}
 use mathlib.Core.Path.{refl}
 use lib.ListN.{length, take}
-use Rattle.report_text.proofs.Adding.{Grown, grown-none, bytes-more, bytes-all}
-use Rattle.report_text.proofs.pieces.put_bytes.Statement.{statement}
-use Rattle.report_text.proofs.pieces.put_bytes.Tie as tie
+use Rattle.text.proofs.Adding.{Grown, grown-none, bytes-more, bytes-all}
+use Rattle.text.proofs.put_bytes.Statement.{statement}
+use Rattle.text.proofs.put_bytes.Tie as tie
 
 abbrev Inv-loop : tie.InvT-loop
 Inv-loop text₀ start bytes at₀ i₀ text at i = (i ≤ length bytes) × Grown (take i bytes) text₀ start text at

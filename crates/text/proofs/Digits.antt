@@ -12,7 +12,7 @@ use lib.IntN.{subℕ}
 use borrow.Author.Tests.{ltb-true, ltb-false, lt-ltb, le-ltb}
 use Rattle.io.specs.Digits.{digits, Fewest}
 use Rattle.jobs.proofs.Below.{by-cases, least-is}
-use Rattle.report_text.specs.Report.{places, decimal, labelled, signed}
+use Rattle.text.specs.Text.{places, decimal, labelled, signed}
 
 module _ (n c : ℕ) (small : n < 2 ^ 64) (below : n < 10 ^ suc c) (above : 0 < c → 10 ^ c ≤ n) where
   -- 20 digits hold every number of 64 bits
@@ -36,10 +36,10 @@ digits-are-decimal n (suc c) small fewest = ap (λ d. digits 10 d n) (fewest-pla
 
 -- ---- signed numbers
 
-pub in-time : (deadline late : ℕ) → late ≤ deadline → signed (subℕ deadline late) ≡ decimal (deadline - late)
-in-time deadline late l = rw (le-ltb deadline late l)
+pub signed-above : (number less : ℕ) → less ≤ number → signed (subℕ number less) ≡ decimal (number - less)
+signed-above number less l = rw (le-ltb number less l)
 
-pub too-late : (deadline late : ℕ) → deadline < late → signed (subℕ deadline late) ≡ labelled "-" (late - deadline)
-too-late deadline late l =
-    let missing : suc (late - suc deadline) ≡ late - deadline = omega arith in
-    rw (lt-ltb deadline late l) (ap (λ d. labelled "-" d) missing)
+pub signed-below : (number less : ℕ) → number < less → signed (subℕ number less) ≡ labelled "-" (less - number)
+signed-below number less l =
+    let missing : suc (less - suc number) ≡ less - number = omega arith in
+    rw (lt-ltb number less l) (ap (λ d. labelled "-" d) missing)

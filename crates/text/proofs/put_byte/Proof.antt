@@ -1,9 +1,9 @@
--- `report_text::pieces::put_byte` meets its contract: the byte goes after the text, or is left out where the buffer is full. Assumes nothing.
+-- `text::put_byte` meets its contract: the byte goes after the text, or is left out where the buffer is full. Assumes nothing.
 use native.Mathlib.Omega.{arith}
 use borrow.Author.Needs.{needs}
-use Rattle.report_text.proofs.Adding.{adds-byte, adds-cut}
-use Rattle.report_text.proofs.pieces.put_byte.Statement.{statement}
-use Rattle.report_text.proofs.pieces.put_byte.Tie as tie
+use Rattle.text.proofs.Adding.{adds-byte, adds-cut}
+use Rattle.text.proofs.put_byte.Statement.{statement}
+use Rattle.text.proofs.put_byte.Tie as tie
 
 returns : tie.Need-returns
 returns c = let a = c .before .args in adds-cut _ (a .text .now) (a .at) (omega arith)

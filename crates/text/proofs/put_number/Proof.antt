@@ -1,11 +1,11 @@
--- `report_text::put_number` meets its contract: two digits for each number that reading refuses with. Assumes nothing.
+-- `text::put_number` meets its contract: two digits for each number that reading refuses with. Assumes nothing.
 use mathlib.Core.Path.{sym, ap}
 use Rattle.jobs.specs.Below.{least}
-use Rattle.report_text.specs.Report.{places, decimal}
-use Rattle.report_text.proofs.Adding.{adds-same}
+use Rattle.text.specs.Text.{places, decimal}
+use Rattle.text.proofs.Adding.{adds-same}
 use borrow.Author.Needs.{needs}
-use Rattle.report_text.proofs.put_number.Statement.{statement}
-use Rattle.report_text.proofs.put_number.Tie as tie
+use Rattle.text.proofs.put_number.Statement.{statement}
+use Rattle.text.proofs.put_number.Tie as tie
 
 slice-aggregate-put-bytes : tie.Need-slice-aggregate-put-bytes
 slice-aggregate-put-bytes c = search needs
