@@ -24,7 +24,7 @@ use Rattle.jobfile.proofs.Records.{IsHead, IsJob, as-head, as-job}
 use Rattle.jobfile.proofs.Walk.{by-record, walk-ends, walk-head, walk-job, walk-bad}
 use Rattle.jobfile.proofs.Filling.{headed-is}
 use Rattle.jobfile_write.specs.Writing.{headBytes, jobBytes, jobsBytes, fileOf}
-use Rattle.jobfile_write.proofs.Lengths.{jobsBytes-length, fileOf-length}
+use Rattle.jobfile_write.proofs.Lengths.{headBytes-length}
 use Rattle.jobfile_laws.proofs.Digits.{IsBytes, bytes-drop, bytes-back, wordBytes-words}
 use Rattle.jobfile_laws.proofs.Ranges.{InRange, in-range-fine, more-in-range}
 
@@ -158,7 +158,7 @@ module _ (file table : List ℕ) (k : ℕ) (means : meaning file ≡ holds table
   read-faults-fine =
       by-cases (headed file)
       (λ t. given-unless 4 0 (le-ltb _ _ (after-head t .0 .few)))
-      (λ t. let one = jobs-alone t .0 in given-unless 4 0 (le-ltb 8 k (omega arith)))
+      (λ t. let rule = jobs-alone t .0 in given-unless 4 0 (le-ltb 8 k (omega arith)))
 
 module _ (file table : List ℕ) (k : ℕ) (bytes : IsBytes file) (means : meaning file ≡ holds table k) where
   pub headed-same-bytes : headed file ≡ true → fileOf table k ≡ file
@@ -169,10 +169,15 @@ module _ (file table : List ℕ) (k : ℕ) (bytes : IsBytes file) (means : meani
       ∙ ap (λ (l : List ℕ). take 5 file ++ l) (ap (λ (n : ℕ). jobsBytes n table) (sym (count-is file table k means (drop 5 file) (a .1))) ∙ sym (a .1 .same (bytes-drop 5 file bytes)))
       ∙ take-append-drop 5 file
 
+  -- a file without a head, after a head of any k, is what the writer writes of its table and that k
+  pub headless-after-head : headed file ≡ false → (j : ℕ) → headBytes j ++ file ≡ fileOf table j
+  unfolding fileOf
+  headless-after-head t j =
+      let alone = jobs-alone file table k means t .1 in
+      ap (λ (l : List ℕ). headBytes j ++ l) (alone .same bytes ∙ ap (λ (n : ℕ). jobsBytes n table) (count-is file table k means file alone))
+
   pub headless-five-more : headed file ≡ false → length (fileOf table k) ≡ length file + 5
-  headless-five-more t =
-      let j = jobs-alone file table k means t .1 in
-      omega (arith, fileOf-length table k, count-is file table k means file j, ap length (j .same bytes), jobsBytes-length (j .count) table (omega (arith, j .long)))
+  headless-five-more t = omega (arith, ap length (headless-after-head t k), length-append (headBytes k) file, headBytes-length k)
 
   -- writing what was read gives the same bytes exactly if the file had a head
   pub same-bytes-iff-headed : (fileOf table k ≡ file) ↔ (headed file ≡ true)
