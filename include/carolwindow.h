@@ -78,7 +78,7 @@ uint64_t carolwindow_judge(const uint32_t *table, size_t table_length, uint32_t 
 uint64_t carolwindow_pattern(const uint32_t *table, size_t table_length, uint32_t k, uint32_t job,
                              uint32_t *pattern, size_t pattern_length);
 
-/* Read a file: n and k (1 if the file has no head), with the rows in the table buffer.
+/* Read a file: n and k (2 if the file has no head), with the rows in the table buffer.
  * Fills the first 4 x n words of table. Value: 256 x k + n. Refusals: the first met, record by record from the front, of 20 to 25;
  * then 26. */
 uint64_t carolwindow_read(const uint8_t *file, size_t file_length, uint32_t *table, size_t table_length);

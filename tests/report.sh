@@ -77,7 +77,7 @@ for job in samples/*.job; do step "report on $job" sample "$job"; done
 step 'report on case 7' says "$case_7" "$report <$out/miss.job"
 step 'report on case 14, cut off' says 'refused 20 at 5' "printf '$case_2' | head -c 24 | $report"
 step 'report, the longest' longest
-step 'report on no bytes' says 'k 1 jobs 0 sound' "$report </dev/null"
+step 'report on no bytes' says 'k 2 jobs 0 sound' "$report </dev/null"
 step 'report on 32,768 bytes' says 'refused 21 at 1285' "cat samples/full-frame.job /dev/zero | head -c 32768 | $report"
 step 'report on 32,769 bytes' says 'too long' "cat samples/full-frame.job /dev/zero | head -c 32769 | $report"
 step 'report on input without end' says 'too long' "$report </dev/zero"

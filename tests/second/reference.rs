@@ -116,9 +116,9 @@ fn bad_field(table: &[u32]) -> Option<usize> {
     (0..table.len()).find(|&word| !FIELDS[word % 4].contains(&table[word]))
 }
 
-/// k and the rows of a file, or the first refusal met.
+/// k and the rows of a file, or the first refusal met. Without a head k is 2.
 fn read(file: &[u8]) -> Result<(u8, Vec<u32>), Refusal> {
-    let mut k = 1;
+    let mut k = 2;
     let mut table = vec![];
     let mut at = 0;
     while at < file.len() {
@@ -155,6 +155,18 @@ pub fn written(table: &[u32], k: u32) -> Vec<u8> {
         file.extend(row.iter().flat_map(|word| word.to_le_bytes()));
     }
     file
+}
+
+/// What the rewriting program writes for an input. The older cameras' rule was that without a head k is 1.
+pub fn rewritten(file: &[u8]) -> Vec<u8> {
+    if file.len() > 32_768 {
+        return b"too long\n".to_vec();
+    }
+    match read(file) {
+        Err((number, place)) => format!("refused {number} at {place}\n").into_bytes(),
+        Ok(_) if file.starts_with(&[3, 0, 1, 0]) => file.to_vec(),
+        Ok(_) => [&[3, 0, 1, 0, 1], file].concat(),
+    }
 }
 
 fn refuse_if(applies: bool, number: u8, place: usize) -> Result<(), Refusal> {

@@ -62,6 +62,9 @@ pub fn cases(side: Side, check: &mut dyn FnMut(u32, bool)) {
 
     check(14, read(side, &CASE_14) == (256 * 2 + 1, vec![0, 2, 4, 1]));
     check(14, read(side, &CASE_14[..24]) == (refused(20, 5), vec![99; 4]));
+    // 02, T-01: a missing head means k = 2, and the empty file gives k = 2 and no jobs.
+    check(14, read(side, &CASE_14[5..]) == (256 * 2 + 1, vec![0, 2, 4, 1]));
+    check(14, read(side, &[]) == (256 * 2, vec![99; 4]));
 
     check(15, judge(side, &[0, 0, 4, 1], 2).0 == refused(3, 1));
     check(15, judge(side, &[0, 0, 4, 1], 9).0 == refused(3, 1));

@@ -101,7 +101,7 @@ headed file = isHead (recordAt file 0 0)
 
 -- The k of a file without a head.
 abbrev pub headlessK : ℕ
-headlessK = 1
+headlessK = 2
 
 -- The meaning of a file: the walk from its start, with no job before it.
 unfoldable pub meaning : List ℕ → Meaning

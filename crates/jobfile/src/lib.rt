@@ -12,7 +12,7 @@ ghost use Rattle.jobfile.specs.Bytes.{numberAt, over};
 ghost use Rattle.jobfile.specs.Meaning.{lengthOf, rowOf, strays, headAt, jobAt, recordAt, headed, meaning, answered, filled, Good, ReadsTo};
 
 // The k of a file without a head.
-const HEADLESS_K: u32 = 1;
+const HEADLESS_K: u32 = 2;
 
 // A head and a job in bytes, with their length.
 pub const HEAD_BYTES: usize = 5;

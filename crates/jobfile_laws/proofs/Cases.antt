@@ -35,10 +35,10 @@ AllHold [] = Unit {0}
 AllHold (c ∷ cs) = Holds c × AllHold cs
 
 -- A head, and the job (0, 2, 4, 1), in bytes; the job with C of 0; and a list so many times over.
-abbrev head : ℕ → List ℕ
+abbrev pub head : ℕ → List ℕ
 head k = 0x03 ∷ 0x00 ∷ 0x01 ∷ 0x00 ∷ k ∷ []
 
-abbrev job : List ℕ
+abbrev pub job : List ℕ
 job =
     0x12 ∷ 0x00 ∷ 0x02 ∷ 0x00 ∷ 0x00 ∷ 0x00 ∷ 0x00 ∷ 0x00 ∷ 0x02 ∷ 0x00 ∷ 0x00 ∷ 0x00 ∷ 0x04 ∷ 0x00 ∷ 0x00 ∷ 0x00 ∷ 0x01 ∷ 0x00 ∷ 0x00 ∷ 0x00 ∷ []
 
@@ -60,7 +60,7 @@ cases =
     ∷ means (take 24 (head 2 ++ job)) (refused 20 5)
     ∷ file row 2 (head 2 ++ job)
     -- no jobs: the empty file, and a head alone
-    ∷ means [] (holds [] 1)
+    ∷ means [] (holds [] 2)
     ∷ means (head 2) (holds [] 2)
     ∷ file [] 0 (head 0)
     -- 20: fewer than 2 bytes left, or a record longer than the bytes left, also of an unknown kind
@@ -83,14 +83,14 @@ cases =
     ∷ means (head 9) (refused 25 0)
     ∷ means (head 2 ++ job ++ noRun) (refused 25 25)
     -- 64 jobs, a 65th: 24, also with a bad value; cut off it is 20
-    ∷ means (times 64 job) (holds (times 64 row) 1)
+    ∷ means (times 64 job) (holds (times 64 row) 2)
     ∷ means (times 65 job) (refused 24 1280)
     ∷ means (head 2 ++ times 64 job ++ noRun) (refused 24 1285)
     ∷ means (times 64 job ++ take 19 job) (refused 20 1280)
     -- 26: the table buffer is short
     ∷ reads (head 2 ++ job) 4 (Jobs 1 2)
     ∷ reads (head 2 ++ job) 3 (Contents.Refused 26 25)
-    ∷ reads [] 0 (Jobs 0 1)
+    ∷ reads [] 0 (Jobs 0 2)
     -- numbers over 255
     ∷ file (1000000 ∷ 100000 ∷ 1900000 ∷ 100000 ∷ []) 8
     (head 8 ++ 0x12 ∷ 0x00 ∷ 0x02 ∷ 0x00 ∷ 0x40 ∷ 0x42 ∷ 0x0f ∷ 0x00 ∷ 0xa0 ∷ 0x86 ∷ 0x01 ∷ 0x00 ∷ 0xe0 ∷ 0xfd ∷ 0x1c ∷ 0x00 ∷ 0xa0 ∷ 0x86 ∷ 0x01 ∷ 0x00 ∷ [])
