@@ -145,24 +145,41 @@ pub(crate) fn delayed(case: u32, table: &[u32], k: u32) {
     say_check(delays::delays(table, k, &mut delays), b" delays", &delays);
 }
 
-// A file of one job read: k, the number of jobs and the row.
-pub(crate) fn read(case: u32, file: &[u8]) {
+// A file of at most one job read: k, the number of jobs and the row.
+fn say_read(file: &[u8]) {
     let mut table = [0; 4];
-    say_number(case);
     match jobfile::read(file, &mut table) {
         Contents::Jobs { n, k } => {
             say(b". read: k ");
             say_number(k);
             say(b", jobs ");
             say_place(n);
-            say(b", row");
-            say_words(&table, 4);
+            if 0 < n {
+                say(b", row");
+                say_words(&table, 4);
+            }
         }
         Contents::Refused { number, place } => {
             say(b". read:");
             say_refused(number, place);
         }
     }
+    say(b"\n");
+}
+
+pub(crate) fn read(case: u32, file: &[u8]) {
+    say_number(case);
+    say_read(file);
+}
+
+// 02's T-01: a file of at most one job without a head, read, and rewritten by the old rule.
+pub(crate) fn without_head(file: &[u8]) {
+    let mut rewritten = [0; 25];
+    say(b"T-01");
+    say_read(file);
+    say(b"T-01. rewritten:");
+    let length = rewrite_file::rewrite(file, &mut rewritten);
+    say_bytes(&rewritten, length);
     say(b"\n");
 }
 

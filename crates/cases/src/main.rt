@@ -1,5 +1,5 @@
-// 01's tables worked by hand, run on the code. Each line starts with the number of its case and says what the code answers; the file
-// `stdout` of this crate has what 01 says.
+// 01's tables worked by hand, and sentences of 02, run on the code. Each line starts with the number of its case or request and says what the code answers;
+// the file `stdout` of this crate has what 01 and 02 say.
 mod ask;
 mod say;
 
@@ -12,6 +12,7 @@ use ask::read;
 use ask::rewritten;
 use ask::scheduled;
 use ask::shown;
+use ask::without_head;
 
 // The table of cases 4, 5, 6, 13 and 16, and that of case 7.
 const CASE_5: [u32; 8] = [0, 3, 20, 2, 4, 1, 15, 5];
@@ -80,8 +81,16 @@ fn limits() {
     judged(17, &full_table(), 8);
 }
 
+// 02's T-01, a file without a head: the job of case 14, and no bytes.
+fn headless() {
+    let none = [0u8; 0];
+    without_head(b"\x12\0\x02\0\0\0\0\0\x02\0\0\0\x04\0\0\0\x01\0\0\0");
+    without_head(&none);
+}
+
 fn main() {
     no_jobs();
     patterns();
     limits();
+    headless();
 }
