@@ -1,5 +1,6 @@
 //! The independent second program. It answers every ask by itself, slot by slot and pattern by pattern (reference.rs), puts the same
-//! ask to the library through its C interface (library.rs), and compares the answer and every lent list.
+//! ask to the library through its C interface (library.rs), and compares the answer and every lent list. It also runs the rewriting
+//! program of target/bin (program.rs) and compares what that writes.
 //!
 //!   second              the fixed seed
 //!   second SEED         another seed
@@ -13,6 +14,7 @@ mod call;
 mod dice;
 mod generate;
 mod library;
+mod program;
 mod reference;
 mod worked;
 
@@ -30,6 +32,7 @@ const FULL_TABLES: u32 = 12;
 const LARGE_TABLES: u32 = 200;
 const EXTREME_TABLES: u32 = 8;
 const FILES: u32 = 150_000;
+const REWRITTEN: u32 = 3_000;
 
 /// What was tried, and how it went.
 #[derive(Default)]
@@ -186,14 +189,20 @@ fn extremes(count: &mut Count, dice: &Dice) {
     count.compare(&Call { a: 9_999_999, b: 10_000_000, ..Call::new(Ask::FreeSlots, &full[..4]) });
 }
 
+/// A random file, every second one damaged.
+fn some_file(dice: &Dice) -> Vec<u8> {
+    let mut file = random_file(dice);
+    if dice.one_in(2) {
+        for _ in 0..dice.within(1, 3) {
+            damage(dice, &mut file);
+        }
+    }
+    file
+}
+
 fn files(count: &mut Count, dice: &Dice) {
     for _ in 0..FILES {
-        let mut file = random_file(dice);
-        if dice.one_in(2) {
-            for _ in 0..dice.within(1, 3) {
-                damage(dice, &mut file);
-            }
-        }
+        let file = some_file(dice);
         let words = 4 * (file.len() / 20);
         let room = dice.pick(&[0, words.saturating_sub(1), words, words, words, words + 1, 256, 300]);
         count.compare(&Call { file, ..Call::new(Ask::Read, &dice.words(room)) });
@@ -214,6 +223,26 @@ fn round_trips(count: &mut Count, dice: &Dice) {
         passed &= library::answer(&mut again) == length as u64 && again.file == write.file;
         count.check(passed, || format!("round trip of {}", Call { k, ..Call::new(Ask::Write, &table) }));
     }
+}
+
+/// The rewriting program on random files: what it writes, and that rewriting this again changes nothing where it is a file.
+fn rewritings(count: &mut Count, dice: &Dice) {
+    let (mut headed, mut headless, mut refused) = (0, 0, 0);
+    for _ in 0..REWRITTEN {
+        let file = some_file(dice);
+        let expected = reference::rewritten(&file);
+        let written = program::run("rewrite", &file);
+        count.check(written == expected, || format!("rewrite {file:?}\n  expected {expected:?}\n  written {written:?}"));
+        if expected.starts_with(b"refused ") {
+            refused += 1;
+            continue;
+        }
+        *(if expected == file { &mut headed } else { &mut headless }) += 1;
+        let again = program::run("rewrite", &written);
+        count.check(again == expected, || format!("rewrite {file:?} twice\n  written {again:?}"));
+    }
+    println!("rewrite    headed {headed}, without a head {headless}, refused {refused}");
+    count.check(headed.min(headless).min(refused) >= 100, || "one kind of file hardly came up".to_string());
 }
 
 /// Every refusal of every ask must have come up, and both verdicts.
@@ -269,6 +298,7 @@ fn main() {
     extremes(&mut count, dice);
     files(&mut count, dice);
     round_trips(&mut count, dice);
+    rewritings(&mut count, dice);
     coverage(&mut count);
     println!("{} s (meant to take at most about a minute; a slower machine only takes longer)", start.elapsed().as_secs());
     finish(count);
