@@ -6,7 +6,8 @@ use mathlib.Core.Path.{_≡_, refl, sym, ap, _∙_}
 use mathlib.Core.Logic.{_↔_}
 use mathlib.Core.Bool.{Bool, true, false, cond}
 use mathlib.Core.List.{List, _++_}
-use lib.ListN.{length, length-append}
+use lib.ListN.{length, take, length-append}
+use lib.Seq.{take-at}
 use lib.Dec.{ltb}
 use borrow.Author.Tests.{ltb-true, ltb-false, le-ltb}
 use Rattle.text.specs.Text.{mostBytes, Adds}
@@ -18,7 +19,9 @@ use Rattle.jobs.specs.declared.Check.the-variants.{Fine}
 use Rattle.jobs.proofs.Below.{by-cases}
 use Rattle.jobs.proofs.Refusals.{good, given-unless, not-given}
 use Rattle.jobfile.specs.Bytes.{over}
-use Rattle.jobfile.specs.Meaning.{Meaning, holds, refused, isHead, headed, headlessK, meaning}
+use Rattle.jobfile.specs.Meaning.{Meaning, holds, refused, isHead, headed, headlessK, meaning, ReadsTo}
+use Rattle.jobfile.specs.declared.Contents.{Contents}
+use Rattle.jobfile.specs.declared.Contents.the-variants.{Jobs}
 use Rattle.jobfile.proofs.Records.{head-answers}
 use Rattle.jobfile_write.specs.Writing.{headBytes, jobsBytes, fileOf}
 use Rattle.jobfile_write.proofs.Lengths.{fileOf-length}
@@ -120,3 +123,14 @@ rewrite-whole file before answer after bytes l a =
     let fits = rewritten-short file bytes in
     let all = adds-all (rewritten file) before after answer a in
     (omega (arith, all .1), all .0 ∙ laid-whole (rewritten file) before (omega arith))
+
+-- What `rewrite` leaves in such a buffer, read: the table and k that the file meant by the old rule.
+pub read-what-was-rewritten : (file table : List ℕ) (k : ℕ) → oldMeaning file ≡ holds table k → IsBytes file
+    → (before : List ℕ) (answer : ℕ) (after : List ℕ) → 1285 ≤ length before → Adds (rewritten file) before 0 after answer
+    → (room : List ℕ) (contents : Contents) (rows : List ℕ) → ReadsTo (take answer after) room contents rows → length table ≤ length room
+    → (contents ≡ Jobs (jobs table) k) × (rows ≡ over table room)
+read-what-was-rewritten file table k meant bytes before answer after l a room contents rows r h =
+    let whole = rewrite-whole file before answer after bytes l a in
+    let read : take answer after ≡ rewritten file = ap (take answer) (whole .1) ∙ take-at (rewritten file) _ answer (sym (whole .0)) in
+    let means : meaning (take answer after) ≡ holds table k = ap meaning read ∙ rewritten-means file table k meant bytes ∙ meant in
+    (r .answers ∙ rw (means, le-ltb (length room) (length table) h), r .fills ∙ rw (means, le-ltb (length room) (length table) h))
