@@ -1,4 +1,7 @@
 // The C interface: each function calls an ask and packs its answer into 64 bits. `include/carolwindow.h` declares them for C.
+
+#![tactic(auto)]
+
 ghost use Rattle.std.specs.Prelude.{◌≡◌, ◌+◌};
 ghost use Rattle.jobs.specs.declared.Check.{Check};
 ghost use Rattle.schedule.specs.Asks.{Scheduled, free_slots_answer};

@@ -1,5 +1,8 @@
 // 01's tables worked by hand, and sentences of 02, run on the code. Each line starts with the number of its case or request and says what the code answers;
 // the file `stdout` of this crate has what 01 and 02 say.
+
+#![tactic(auto)]
+
 mod ask;
 mod say;
 

@@ -4,6 +4,9 @@
 // their fault-free finishes; the formula's first two cases are a first row of zeros. The paper takes the most over patterns of exactly w faults and
 // argues that the formula gives it. Here it is the most over patterns of at most w faults, as 01 has it, and that the formula gives it is proved of
 // the schedule's slots. The jobs are all those of the table. The paper goes on to judge by the delays' first zero; 01 does not (its case 5).
+
+#![tactic(auto)]
+
 mod finishing;
 mod row;
 

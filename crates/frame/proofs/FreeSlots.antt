@@ -13,12 +13,11 @@ use native.Mathlib.Omega.{arith}
 use mathlib.Core.Path.{◌≡◌, refl, sym, ap, ◌∙◌}
 use mathlib.Core.Bool.{Bool, true, cond}
 use mathlib.Core.List.{List}
-use lib.ListN.{get_or, get_or-replicate}
+use lib.ListN.{get_or-replicate}
 use lib.Dec.{leb, ltb, eqb}
 use borrow.Author.Tests.{lt-ltb, le-ltb, le-leb, eq-eqb, ne_eqb, eqb-true, eqb-false, ltb-true, ltb-false}
 use Rattle.jobs.specs.Below.{total, count, some}
 use Rattle.jobs.specs.Table.{jobs, ready, run}
-use Rattle.jobs.specs.Refusals.{after}
 use Rattle.jobs.proofs.Below.{by_cases, some_where, none_at, part_le-total, total_same, total-add, count_none, count_more}
 use Rattle.frame.specs.Schedule.{need, idle, no_faults, free_slots}
 use Rattle.frame.proofs.Slots.{waits_at, waits_is}

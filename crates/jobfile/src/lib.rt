@@ -1,5 +1,7 @@
 // Reading a job file into a table and k.
 
+#![tactic(auto)]
+
 ghost use Rattle.std.specs.Prelude.{◌≡◌, cond, ◌+◌, ◌≤◌, ◌<◌, length, get_or, drop};
 ghost use Rattle.jobs.specs.Table.{row_words};
 ghost use Rattle.jobfile.specs.Bytes.{number_at, over};

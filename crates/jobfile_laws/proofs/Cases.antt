@@ -10,7 +10,7 @@ use Rattle.jobfile.specs.Bytes.{number, words}
 use Rattle.jobfile.specs.Meaning.{Meaning, holds, refused, head_at, job_at, by_kind, record_at, walk, meaning, answered}
 use Rattle.jobfile.specs.declared.Contents.{Contents}
 use Rattle.jobfile.specs.declared.Contents.TheVariants.{Jobs}
-use Rattle.jobfile_write.specs.Writing.{bytes_of, word_bytes, head_bytes_lem, job_bytes, jobs_bytes, file_of, write_refusals, reported}
+use Rattle.jobfile_write.specs.Writing.{bytes_of, word_bytes, head_bytes, job_bytes, jobs_bytes, file_of, write_refusals, reported}
 use Rattle.jobfile_write.specs.declared.Written.{Written}
 use Rattle.jobfile_write.specs.declared.Written.TheVariants.{Length}
 
@@ -106,7 +106,7 @@ cases =
 
 -- what computes in the cases
 worked : ℕ
-unfolding some least number words head_at job_at by_kind record_at walk meaning bytes_of word_bytes head_bytes_lem job_bytes jobs_bytes file_of times
+unfolding some least number words head_at job_at by_kind record_at walk meaning bytes_of word_bytes head_bytes job_bytes jobs_bytes file_of times
 worked = 0
 
 pub cases_hold : AllHold cases

@@ -17,15 +17,15 @@ use Rattle.jobfile.specs.Bytes.{number, words}
 use Rattle.jobfile.specs.Meaning.{row_of, strays, holds, with_row, walk, headless_k, meaning}
 use Rattle.jobfile.proofs.Records.{IsHead, IsJob, head_answers, job_answers}
 use Rattle.jobfile.proofs.Walk.{walk_ends, walk-head, walk-job}
-use Rattle.jobfile_write.specs.Writing.{bytes_of, word_bytes, head_bytes_lem, job_bytes, jobs_bytes, file_of}
+use Rattle.jobfile_write.specs.Writing.{bytes_of, word_bytes, head_bytes, job_bytes, jobs_bytes, file_of}
 use Rattle.jobfile_write.proofs.Lengths.{head_bytes-length, word_bytes-length, job_bytes-length}
 use Rattle.jobfile_laws.proofs.Digits.{take_below, words-word_bytes}
 use Rattle.jobfile_laws.proofs.Ranges.{InRange, fine_in_range, rest_in_range, row_stays, word_fits}
 
 -- ---- one record
 
-pub head-again : (k : ℕ) (rest : List ℕ) → k ≤ 8 → IsHead (head_bytes_lem k ++ rest) 0 k
-unfolding head_bytes_lem bytes_of number
+pub head-again : (k : ℕ) (rest : List ℕ) → k ≤ 8 → IsHead (head_bytes k ++ rest) 0 k
+unfolding head_bytes bytes_of number
 head-again k rest h =
     record {
       whole = omega arith;
@@ -78,6 +78,6 @@ read_back table k fine few =
     let rest = jobs_bytes (jobs table) table in
     let small : k ≤ 8 = ltb-false _ _ (not-given _ 4 0 few) in
     let g = good table fine in
-    walk-head (head_bytes_lem k ++ rest) 0 0 headless_k k (head_answers (head_bytes_lem k ++ rest) 0 0 k (head-again k rest small))
-    ∙ ap (λ (l : List ℕ). walk l 0 5 0 k) (drop_at (head_bytes_lem k) rest 5 (head_bytes-length k))
+    walk-head (head_bytes k ++ rest) 0 0 headless_k k (head_answers (head_bytes k ++ rest) 0 0 k (head-again k rest small))
+    ∙ ap (λ (l : List ℕ). walk l 0 5 0 k) (drop_at (head_bytes k) rest 5 (head_bytes-length k))
     ∙ jobs-again (jobs table) table 5 0 k g.whole_rows (omega (arith, g.few_jobs)) (fine_in_range table fine)

@@ -23,7 +23,7 @@ use Rattle.jobfile.proofs.Bytes.{row-length}
 use Rattle.jobfile.proofs.Records.{IsHead, IsJob, as_head, as_job}
 use Rattle.jobfile.proofs.Walk.{by-record, walk_ends, walk-head, walk-job, walk_bad}
 use Rattle.jobfile.proofs.Filling.{headed_is}
-use Rattle.jobfile_write.specs.Writing.{head_bytes_lem, job_bytes, jobs_bytes, file_of}
+use Rattle.jobfile_write.specs.Writing.{head_bytes, job_bytes, jobs_bytes, file_of}
 use Rattle.jobfile_write.proofs.Lengths.{head_bytes-length}
 use Rattle.jobfile_laws.proofs.Digits.{IsBytes, bytes_drop, bytes_back, word_bytes-words}
 use Rattle.jobfile_laws.proofs.Ranges.{InRange, in_range_fine, more_in_range}
@@ -36,8 +36,8 @@ parts a b c l =
     ap (λ (r : List ℕ). take a l ++ r) (ap (λ (r : List ℕ). take b (drop a l) ++ take c r) (sym (drop-drop b a l)) ∙ sym (take-add b c (drop a l)))
     ∙ sym (take-add a (b + c) l)
 
-head_bytes_lem : (left : List ℕ) (at k : ℕ) → IsBytes left → IsHead left at k → head_bytes_lem k ≡ take 5 left
-unfolding head_bytes_lem
+head_bytes_lem : (left : List ℕ) (at k : ℕ) → IsBytes left → IsHead left at k → head_bytes k ≡ take 5 left
+unfolding head_bytes
 head_bytes_lem left at k h i =
     rw (
       bytes_back 2 3 left h (omega arith) i.long,
@@ -170,14 +170,14 @@ module _ (file table : List ℕ) (k : ℕ) (bytes : IsBytes file) (means : meani
       ∙ take-append-drop 5 file
 
   -- a file without a head, after a head of any k, is what the writer writes of its table and that k
-  pub headless_after-head : headed file ≡ false → (j : ℕ) → head_bytes_lem j ++ file ≡ file_of table j
+  pub headless_after-head : headed file ≡ false → (j : ℕ) → head_bytes j ++ file ≡ file_of table j
   unfolding file_of
   headless_after-head t j =
       let alone = (jobs_alone file table k means t).1 in
-      ap (λ (l : List ℕ). head_bytes_lem j ++ l) (alone.same bytes ∙ ap (λ (n : ℕ). jobs_bytes n table) (count_is file table k means file alone))
+      ap (λ (l : List ℕ). head_bytes j ++ l) (alone.same bytes ∙ ap (λ (n : ℕ). jobs_bytes n table) (count_is file table k means file alone))
 
   pub headless_five_more : headed file ≡ false → length (file_of table k) ≡ length file + 5
-  headless_five_more t = omega (arith, ap length (headless_after-head t k), length-append (head_bytes_lem k) file, head_bytes-length k)
+  headless_five_more t = omega (arith, ap length (headless_after-head t k), length-append (head_bytes k) file, head_bytes-length k)
 
   -- writing what was read gives the same bytes exactly if the file had a head
   pub same_bytes_iff_headed : (file_of table k ≡ file) ↔ (headed file ≡ true)

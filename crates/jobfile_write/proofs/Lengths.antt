@@ -8,7 +8,7 @@ use lib.ListN.{length, get_or, take, drop, length-append, length-drop}
 use lib.Seq.{length-take-le, take-suc, drop-drop}
 use native.Mathlib.Nat.{div-mul-le_self}
 use Rattle.jobs.specs.Table.{row_words, jobs}
-use Rattle.jobfile_write.specs.Writing.{bytes_of, word_bytes, head_bytes_lem, job_bytes, jobs_bytes, file_of}
+use Rattle.jobfile_write.specs.Writing.{bytes_of, word_bytes, head_bytes, job_bytes, jobs_bytes, file_of}
 
 pub bytes_of-length : (width x : ℕ) → length (bytes_of width x) ≡ width
 unfolding bytes_of
@@ -37,8 +37,8 @@ word_bytes_more row i h =
     ∙ word_bytes-append (take i row) (get_or row i 0 ∷ [])
     ∙ ap (λ (l : List ℕ). word_bytes (take i row) ++ l) (word_bytes_one (get_or row i 0))
 
-pub head_bytes-length : (k : ℕ) → length (head_bytes_lem k) ≡ 5
-unfolding head_bytes_lem bytes_of
+pub head_bytes-length : (k : ℕ) → length (head_bytes k) ≡ 5
+unfolding head_bytes bytes_of
 head_bytes-length k = refl
 
 pub job_bytes-length : (row : List ℕ) → length (job_bytes row) ≡ 4 + 4 * length row
@@ -77,7 +77,7 @@ unfolding file_of
 file_of-length table k =
     omega (
       arith,
-      length-append (head_bytes_lem k) (jobs_bytes (jobs table) table),
+      length-append (head_bytes k) (jobs_bytes (jobs table) table),
       head_bytes-length k,
       jobs_bytes-length (jobs table) table (div-mul-le_self (length table) row_words),
     )

@@ -18,8 +18,8 @@ word_bytes [] = []
 word_bytes (w ∷ ws) = bytes_of 4 w ++ word_bytes ws
 
 -- A head: length 3, kind 1, one byte k.
-unfoldable pub head_bytes_lem : ℕ → List ℕ
-head_bytes_lem k = bytes_of 2 3 ++ (bytes_of 2 1 ++ bytes_of 1 k)
+unfoldable pub head_bytes : ℕ → List ℕ
+head_bytes k = bytes_of 2 3 ++ (bytes_of 2 1 ++ bytes_of 1 k)
 
 -- A job: length 18, kind 2, the row's words as 32-bit numbers.
 unfoldable pub job_bytes : List ℕ → List ℕ
@@ -32,7 +32,7 @@ jobs_bytes (suc n) table = job_bytes (take row_words table) ++ jobs_bytes n (dro
 
 -- The writer always writes a head, then the jobs.
 unfoldable pub file_of : List ℕ → ℕ → List ℕ
-file_of table k = head_bytes_lem k ++ jobs_bytes (jobs table) table
+file_of table k = head_bytes k ++ jobs_bytes (jobs table) table
 
 -- 28: write buffer shorter than the file; place: bytes needed.
 abbrev pub no_room : List ℕ → ℕ → ℕ → Check

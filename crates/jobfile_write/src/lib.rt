@@ -1,10 +1,12 @@
 // Writing a table and k as a job file. Each record is written from the first free byte of the lent buffer onward.
 
+#![tactic(auto)]
+
 ghost use Rattle.std.specs.Prelude.{◌≡◌, ◌+◌, ◌*◌, ◌≤◌, length, take};
 ghost use Rattle.jobs.specs.Table.{row_words, jobs};
 ghost use Rattle.jobs.specs.Refusals.{first};
 ghost use Rattle.jobfile.specs.Bytes.{over};
-ghost use Rattle.jobfile_write.specs.Writing.{bytes_of, word_bytes, head_bytes_lem, job_bytes, jobs_bytes, file_of, write_refusals, WritesTo};
+ghost use Rattle.jobfile_write.specs.Writing.{bytes_of, word_bytes, head_bytes, job_bytes, jobs_bytes, file_of, write_refusals, WritesTo};
 
 use jobfile::{HEAD_BYTES, JOB_BYTES};
 use jobs::{Check, ROW};
@@ -71,7 +73,7 @@ fn put_job(row: &[u32], free: &mut [u8])
 // A head: length 3, kind 1, one byte k.
 fn put_head(k: u32, free: &mut [u8])
     requires { 5 ≤ length free.old }
-    ensures { free.new ≡ over (head_bytes_lem k) free.old }
+    ensures { free.new ≡ over (head_bytes k) free.old }
 {
     put_u16(3, free);
     put_u16(1, &mut free[2..]);

@@ -1,4 +1,7 @@
 // The judge: latest finishes over all patterns of at most k faults, the verdict, and patterns that reach a latest finish.
+
+#![tactic(auto)]
+
 use frame::Verdict;
 
 mod asks;

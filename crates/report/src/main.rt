@@ -1,4 +1,7 @@
 // The report program: a job file from standard input, the report on it to standard output.
+
+#![tactic(auto)]
+
 use libc::{STDIN_FILENO, STDOUT_FILENO};
 use report_text::MOST_TEXT;
 

@@ -1,4 +1,7 @@
 // The report on a job file, as text: the verdict, a line for each job, and on a miss the pattern.
+
+#![tactic(auto)]
+
 ghost use Rattle.std.specs.Prelude.{◌≡◌, ◌*◌, ◌≤◌, ◌<◌, length, get_or, take};
 ghost use Rattle.std.proofs.Math.IntN.{sub_ℕ};
 ghost use Rattle.jobs.specs.Table.{row_words, jobs};

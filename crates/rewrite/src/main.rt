@@ -1,4 +1,7 @@
 // The rewriting program: a job file of the old rule from standard input, the file with a head to standard output.
+
+#![tactic(auto)]
+
 use libc::{STDIN_FILENO, STDOUT_FILENO};
 use rewrite_file::MOST_FILE;
 

@@ -15,7 +15,7 @@ use Rattle.jobfile.specs.declared.Contents.{Contents}
 use Rattle.jobfile.specs.declared.Contents.TheVariants.{Jobs, Refused}
 use Rattle.jobfile.proofs.Records.{as_head, as_job}
 use Rattle.jobfile.proofs.Walk.{by-record, walk_bad, good_file}
-use Rattle.jobfile_write.specs.Writing.{bytes_of, head_bytes_lem}
+use Rattle.jobfile_write.specs.Writing.{bytes_of, head_bytes}
 use Rattle.jobfile_laws.proofs.Promises.{refusal_read}
 use Rattle.jobfile_laws.proofs.Headless.{refused_by_either, holds_by_either}
 use Rattle.rewrite_file.specs.Rewriting.{old_k, with_head, rewritten}
@@ -68,5 +68,5 @@ pub head_stays : (file : List ℕ) → headed file ≡ true → file ≡ with_he
 head_stays file t = rw t
 
 pub head_added : (file : List ℕ) → headed file ≡ false → (3 ∷ 0 ∷ 1 ∷ 0 ∷ 1 ∷ []) ++ file ≡ with_head file
-unfolding head_bytes_lem bytes_of
+unfolding head_bytes bytes_of
 head_added file t = rw t

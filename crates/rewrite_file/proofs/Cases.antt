@@ -7,13 +7,13 @@ use Rattle.jobs.specs.Below.{some, least}
 use Rattle.text.specs.Text.{ascii, places, decimal}
 use Rattle.jobfile.specs.Bytes.{number, words}
 use Rattle.jobfile.specs.Meaning.{head_at, job_at, by_kind, record_at, walk}
-use Rattle.jobfile_write.specs.Writing.{bytes_of, head_bytes_lem}
+use Rattle.jobfile_write.specs.Writing.{bytes_of, head_bytes}
 use Rattle.jobfile_laws.proofs.Cases.{head, job}
 use Rattle.rewrite_file.specs.Rewriting.{rewritten}
 
 -- what computes in the cases
 worked : ℕ
-unfolding some least places decimal number words head_at job_at by_kind record_at walk bytes_of head_bytes_lem rewritten
+unfolding some least places decimal number words head_at job_at by_kind record_at walk bytes_of head_bytes rewritten
 worked = 0
 
 -- A missing head becomes a head of 1.

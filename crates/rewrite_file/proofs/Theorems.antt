@@ -23,7 +23,7 @@ use Rattle.jobfile.specs.Meaning.{Meaning, holds, refused, is_head, headed, head
 use Rattle.jobfile.specs.declared.Contents.{Contents}
 use Rattle.jobfile.specs.declared.Contents.TheVariants.{Jobs}
 use Rattle.jobfile.proofs.Records.{head_answers}
-use Rattle.jobfile_write.specs.Writing.{head_bytes_lem, jobs_bytes, file_of}
+use Rattle.jobfile_write.specs.Writing.{head_bytes, jobs_bytes, file_of}
 use Rattle.jobfile_write.proofs.Lengths.{file_of-length}
 use Rattle.jobfile_laws.proofs.Digits.{IsBytes}
 use Rattle.jobfile_laws.proofs.RoundTrip.{head-again, read_back}
@@ -45,7 +45,7 @@ written-headed : (table : List ℕ) (k : ℕ) → k ≤ 8 → headed (file_of ta
 unfolding file_of
 written-headed table k l =
     let rest = jobs_bytes (jobs table) table in
-    ap is_head (head_answers (head_bytes_lem k ++ rest) 0 0 k (head-again k rest l))
+    ap is_head (head_answers (head_bytes k ++ rest) 0 0 k (head-again k rest l))
 
 module _ (file table : List ℕ) (k : ℕ) (meant : old_meaning file ≡ holds table k) where
   -- by today's rule it holds the same table
@@ -75,7 +75,7 @@ module _ (file table : List ℕ) (k : ℕ) (meant : old_meaning file ≡ holds t
         (λ t. rw t (headless_after-head file table headless_k bytes (rw t at means) t old_k ∙ ap (file_of table) (sym (k_is t))))
 
     with_head_longer : length file ≤ length (with_head file)
-    with_head_longer = by_cases (headed file) (λ t. rw t (omega arith)) (λ t. rw t (omega (arith, length-append (head_bytes_lem old_k) file)))
+    with_head_longer = by_cases (headed file) (λ t. rw t (omega arith)) (λ t. rw t (omega (arith, length-append (head_bytes old_k) file)))
 
     written_short : length (file_of table k) ≤ 1285
     written_short = omega (arith, file_of-length table k, (good table table_fine).few_jobs)
@@ -98,7 +98,7 @@ module _ (file table : List ℕ) (k : ℕ) (meant : old_meaning file ≡ holds t
     rewritten-again =
         ap rewritten rewritten_is_written
         ∙ sym (rewritten_good (file_of table k) table k (omega (arith, written_short)) written_means)
-        ∙ ap (λ (h : Bool). cond h (file_of table k) (head_bytes_lem old_k ++ file_of table k)) (written-headed table k few)
+        ∙ ap (λ (h : Bool). cond h (file_of table k) (head_bytes old_k ++ file_of table k)) (written-headed table k few)
         ∙ sym rewritten_is_written
 
 -- ---- no rewritten file, and no line in its place, is longer than 1,285 bytes

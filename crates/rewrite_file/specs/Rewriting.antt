@@ -2,7 +2,7 @@
 use Rattle.std.specs.Prelude.{ℕ, Bool, true, false, cond, List, ◌++◌, length, ltb}
 use Rattle.text.specs.Text.{refusal, most_bytes, too_long}
 use Rattle.jobfile.specs.Meaning.{Meaning, holds, refused, walk, headed}
-use Rattle.jobfile_write.specs.Writing.{head_bytes_lem}
+use Rattle.jobfile_write.specs.Writing.{head_bytes}
 
 -- The k of a file without a head by the old rule.
 abbrev pub old_k : ℕ
@@ -14,7 +14,7 @@ old_meaning file = walk file 0 0 0 old_k
 
 -- A missing head becomes a head of 1, and other files stay.
 abbrev pub with_head : List ℕ → List ℕ
-with_head file = cond (headed file) file (head_bytes_lem old_k ++ file)
+with_head file = cond (headed file) file (head_bytes old_k ++ file)
 
 -- What is written for an input, by whether it is too long and what it meant: a too long or refused file gets the report's line.
 abbrev pub written_for : Bool → Meaning → List ℕ → List ℕ

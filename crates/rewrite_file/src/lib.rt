@@ -1,4 +1,7 @@
 // Job files of the old rule, by which a missing head meant one fault, rewritten so that they mean the same by today's.
+
+#![tactic(auto)]
+
 ghost use Rattle.std.specs.Prelude.{◌≡◌};
 ghost use Rattle.text.specs.Text.{Adds};
 ghost use Rattle.jobfile.specs.Meaning.{headed, Good};

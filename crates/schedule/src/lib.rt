@@ -1,4 +1,7 @@
 // The asks schedule and free slots.
+
+#![tactic(auto)]
+
 mod events;
 mod idle;
 

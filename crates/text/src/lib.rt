@@ -1,5 +1,8 @@
 // Pieces of text, each put into a lent buffer after the one before, and the lines that a program gives in place of its answer. What a buffer has no
 // room for is left out.
+
+#![tactic(auto)]
+
 ghost use Rattle.std.specs.Prelude.{◌∷◌, [], ◌++◌};
 ghost use Rattle.std.proofs.Math.IntN.{sub_ℕ};
 ghost use Rattle.text.specs.Text.{decimal, signed, refusal, too_long, Adds};
