@@ -8,193 +8,201 @@ use jobfile_write::Written;
 use jobs::Check;
 use judge::Judged;
 use schedule::Free;
+use std::io;
 
 // The start of a line: the number of the case, and k.
-fn start(case: u32, k: u32) {
-    say_number(case);
-    say(b". k ");
-    say_number(k);
-    say(b":");
+fn start(rt: &impl Print, case: u32, k: u32) -> io::Result<()> {
+    say_number(rt, case)?;
+    say(rt, b". k ")?;
+    say_number(rt, k)?;
+    say(rt, b":")
 }
 
 // The end of a line: an answer that is a list, under its name; or the refusal.
-fn say_check(check: Check, name: &[u8], values: &[u32]) {
+fn say_check(rt: &impl Print, check: Check, name: &[u8], values: &[u32]) -> io::Result<()> {
     match check {
         Check::Fine => {
-            say(name);
-            say_words(values, values.len());
+            say(rt, name)?;
+            say_words(rt, values, values.len())?;
         }
-        Check::Refused { number, place } => say_refused(number, place),
+        Check::Refused { number, place } => say_refused(rt, number, place)?,
     }
-    say(b"\n");
+    say(rt, b"\n")
 }
 
 // The latest finishes and margins of a table that has jobs.
-fn say_latest(table: &[u32], latest: &[u32]) {
+fn say_latest(rt: &impl Print, table: &[u32], latest: &[u32]) -> io::Result<()> {
     let n = jobs::jobs(table);
     if 0 < n {
-        say(b" latest");
-        say_words(latest, n);
-        say(b", margins");
-        say_margins(table, latest);
-        say(b",");
+        say(rt, b" latest")?;
+        say_words(rt, latest, n)?;
+        say(rt, b", margins")?;
+        say_margins(rt, table, latest)?;
+        say(rt, b",")?;
     }
+    Ok(())
 }
 
 // The judge: latest finishes, margins, verdict.
-pub(crate) fn judged(case: u32, table: &[u32], k: u32) {
+pub(crate) fn judged(rt: &impl Print, case: u32, table: &[u32], k: u32) -> io::Result<()> {
     let mut latest = [0; 64];
     let mut pattern = [0; 64];
-    start(case, k);
+    start(rt, case, k)?;
     match judge::judge(table, k, &mut latest, &mut pattern) {
         Judged::With(verdict) => {
-            say_latest(table, &latest);
-            say_verdict(verdict);
+            say_latest(rt, table, &latest)?;
+            say_verdict(rt, verdict)?;
         }
-        Judged::Refused { number, place } => say_refused(number, place),
+        Judged::Refused { number, place } => say_refused(rt, number, place)?,
     }
-    say(b"\n");
+    say(rt, b"\n")
 }
 
 // The judge's pattern.
-pub(crate) fn pattern(case: u32, table: &[u32], k: u32) {
+pub(crate) fn pattern(rt: &impl Print, case: u32, table: &[u32], k: u32) -> io::Result<()> {
     let mut latest = [0; 64];
     let mut pattern = [0; 64];
-    start(case, k);
+    start(rt, case, k)?;
     match judge::judge(table, k, &mut latest, &mut pattern) {
         Judged::With(_) => {
-            say(b" pattern");
-            say_words(&pattern, jobs::jobs(table));
+            say(rt, b" pattern")?;
+            say_words(rt, &pattern, jobs::jobs(table))?;
         }
-        Judged::Refused { number, place } => say_refused(number, place),
+        Judged::Refused { number, place } => say_refused(rt, number, place)?,
     }
-    say(b"\n");
+    say(rt, b"\n")
 }
 
 // The named job's finish under the judge's pattern, of a table of two jobs.
-pub(crate) fn shown(case: u32, table: &[u32], k: u32) {
+pub(crate) fn shown(rt: &impl Print, case: u32, table: &[u32], k: u32) -> io::Result<()> {
     let mut latest = [0; 2];
     let mut pattern = [0; 2];
     let mut finishes = [0; 2];
-    start(case, k);
+    start(rt, case, k)?;
     match judge::judge(table, k, &mut latest, &mut pattern) {
         Judged::With(verdict) => {
             schedule::schedule(table, &pattern, &mut finishes);
-            say(b" under the pattern");
-            say_named(verdict, &finishes);
+            say(rt, b" under the pattern")?;
+            say_named(rt, verdict, &finishes)?;
         }
-        Judged::Refused { number, place } => say_refused(number, place),
+        Judged::Refused { number, place } => say_refused(rt, number, place)?,
     }
-    say(b"\n");
+    say(rt, b"\n")
 }
 
 // The pattern of one job, of a table of two jobs.
-pub(crate) fn reached(case: u32, table: &[u32], k: u32, job: u32) {
+pub(crate) fn reached(
+    rt: &impl Print,
+    case: u32,
+    table: &[u32],
+    k: u32,
+    job: u32,
+) -> io::Result<()> {
     let mut pattern = [0; 2];
-    start(case, k);
-    say(b" job ");
-    say_number(job);
-    say_check(
-        judge::pattern_of(table, k, job, &mut pattern),
-        b" pattern",
-        &pattern,
-    );
+    start(rt, case, k)?;
+    say(rt, b" job ")?;
+    say_number(rt, job)?;
+    let check = judge::pattern_of(table, k, job, &mut pattern);
+    say_check(rt, check, b" pattern", &pattern)
 }
 
 // The schedule under a pattern, of a table of two jobs.
-pub(crate) fn scheduled(case: u32, table: &[u32], pattern: &[u32]) {
+pub(crate) fn scheduled(
+    rt: &impl Print,
+    case: u32,
+    table: &[u32],
+    pattern: &[u32],
+) -> io::Result<()> {
     let mut finishes = [0; 2];
-    say_number(case);
-    say(b". pattern");
-    say_words(pattern, pattern.len());
-    say(b":");
-    say_check(
-        schedule::schedule(table, pattern, &mut finishes),
-        b" finishes",
-        &finishes,
-    );
+    say_number(rt, case)?;
+    say(rt, b". pattern")?;
+    say_words(rt, pattern, pattern.len())?;
+    say(rt, b":")?;
+    let check = schedule::schedule(table, pattern, &mut finishes);
+    say_check(rt, check, b" finishes", &finishes)
 }
 
 // The free slots from a to b.
-pub(crate) fn free(case: u32, table: &[u32], a: u32, b: u32) {
-    say_number(case);
-    say(b". from ");
-    say_number(a);
-    say(b" to ");
-    say_number(b);
-    say(b":");
+pub(crate) fn free(rt: &impl Print, case: u32, table: &[u32], a: u32, b: u32) -> io::Result<()> {
+    say_number(rt, case)?;
+    say(rt, b". from ")?;
+    say_number(rt, a)?;
+    say(rt, b" to ")?;
+    say_number(rt, b)?;
+    say(rt, b":")?;
     match schedule::free_slots(table, a, b) {
         Free::Slots(count) => {
-            say(b" free slots ");
-            say_number(count);
+            say(rt, b" free slots ")?;
+            say_number(rt, count)?;
         }
-        Free::Refused { number, place } => say_refused(number, place),
+        Free::Refused { number, place } => say_refused(rt, number, place)?,
     }
-    say(b"\n");
+    say(rt, b"\n")
 }
 
 // The delays, of a table of two jobs.
-pub(crate) fn delayed(case: u32, table: &[u32], k: u32) {
+pub(crate) fn delayed(rt: &impl Print, case: u32, table: &[u32], k: u32) -> io::Result<()> {
     let mut delays = [0; 2];
-    start(case, k);
-    say_check(delays::delays(table, k, &mut delays), b" delays", &delays);
+    start(rt, case, k)?;
+    let check = delays::delays(table, k, &mut delays);
+    say_check(rt, check, b" delays", &delays)
 }
 
 // A file of at most one job read: k, the number of jobs and the row.
-fn say_read(file: &[u8]) {
+fn say_read(rt: &impl Print, file: &[u8]) -> io::Result<()> {
     let mut table = [0; 4];
     match jobfile::read(file, &mut table) {
         Contents::Jobs { n, k } => {
-            say(b". read: k ");
-            say_number(k);
-            say(b", jobs ");
-            say_place(n);
+            say(rt, b". read: k ")?;
+            say_number(rt, k)?;
+            say(rt, b", jobs ")?;
+            say_place(rt, n)?;
             if 0 < n {
-                say(b", row");
-                say_words(&table, 4);
+                say(rt, b", row")?;
+                say_words(rt, &table, 4)?;
             }
         }
         Contents::Refused { number, place } => {
-            say(b". read:");
-            say_refused(number, place);
+            say(rt, b". read:")?;
+            say_refused(rt, number, place)?;
         }
     }
-    say(b"\n");
+    say(rt, b"\n")
 }
 
-pub(crate) fn read(case: u32, file: &[u8]) {
-    say_number(case);
-    say_read(file);
+pub(crate) fn read(rt: &impl Print, case: u32, file: &[u8]) -> io::Result<()> {
+    say_number(rt, case)?;
+    say_read(rt, file)
 }
 
 // 02's T-01: a file of at most one job without a head, read, and rewritten by the old rule.
-pub(crate) fn without_head(file: &[u8]) {
+pub(crate) fn without_head(rt: &impl Print, file: &[u8]) -> io::Result<()> {
     let mut rewritten = [0; 25];
-    say(b"T-01");
-    say_read(file);
-    say(b"T-01. rewritten:");
+    say(rt, b"T-01")?;
+    say_read(rt, file)?;
+    say(rt, b"T-01. rewritten:")?;
     let length = rewrite_file::rewrite(file, &mut rewritten);
-    say_bytes(&rewritten, length);
-    say(b"\n");
+    say_bytes(rt, &rewritten, length)?;
+    say(rt, b"\n")
 }
 
 // A table of one job written.
-fn say_written(table: &[u32], k: u32) {
+fn say_written(rt: &impl Print, table: &[u32], k: u32) -> io::Result<()> {
     let mut file = [0; 25];
     match jobfile_write::write(table, k, &mut file) {
-        Written::Length(length) => say_bytes(&file, length),
-        Written::Refused { number, place } => say_refused(number, place),
+        Written::Length(length) => say_bytes(rt, &file, length),
+        Written::Refused { number, place } => say_refused(rt, number, place),
     }
 }
 
 // A file of one job read and written.
-pub(crate) fn rewritten(case: u32, file: &[u8]) {
+pub(crate) fn rewritten(rt: &impl Print, case: u32, file: &[u8]) -> io::Result<()> {
     let mut table = [0; 4];
-    say_number(case);
-    say(b". written:");
+    say_number(rt, case)?;
+    say(rt, b". written:")?;
     match jobfile::read(file, &mut table) {
-        Contents::Jobs { n: _, k } => say_written(&table, k),
-        Contents::Refused { number, place } => say_refused(number, place),
+        Contents::Jobs { n: _, k } => say_written(rt, &table, k)?,
+        Contents::Refused { number, place } => say_refused(rt, number, place)?,
     }
-    say(b"\n");
+    say(rt, b"\n")
 }

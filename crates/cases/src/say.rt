@@ -1,122 +1,118 @@
 // What the lines are made of.
 use frame::Verdict;
 use jobs::Job;
-use libc::STDOUT_FILENO;
+use std::io;
+use std::io::Write;
 
-pub(crate) fn say(text: &[u8]) {
-    io::write_all(STDOUT_FILENO, text);
+pub(crate) fn say(rt: &impl Print, text: &[u8]) -> io::Result<()> {
+    io::writer(rt).write_all(text)
 }
 
-pub(crate) fn say_number(value: u32) {
-    io::print_decimal(STDOUT_FILENO, value as u64);
+pub(crate) fn say_number(rt: &impl Print, value: u32) -> io::Result<()> {
+    print!(rt; "{value}")
 }
 
-pub(crate) fn say_place(place: usize) {
-    io::print_decimal(STDOUT_FILENO, place as u64);
-}
-
-// A number without its sign.
-fn amount(value: i64) -> u64 {
-    if value < 0 {
-        return (-1 - value) as u64 + 1;
-    }
-    value as u64
+pub(crate) fn say_place(rt: &impl Print, place: usize) -> io::Result<()> {
+    print!(rt; "{place}")
 }
 
 // A number with its sign.
-fn say_signed(value: i64) {
-    if value < 0 {
-        say(b"-");
-    }
-    io::print_decimal(STDOUT_FILENO, amount(value));
+fn say_signed(rt: &impl Print, value: i64) -> io::Result<()> {
+    print!(rt; "{value}")
 }
 
 // One of some words, with a space before it.
-pub(crate) fn say_word(values: &[u32], i: usize) {
+pub(crate) fn say_word(rt: &impl Print, values: &[u32], i: usize) -> io::Result<()> {
     if i < values.len() {
-        say(b" ");
-        say_number(values[i]);
+        say(rt, b" ")?;
+        say_number(rt, values[i])?;
     }
+    Ok(())
 }
 
 // The first n of some words.
-pub(crate) fn say_words(values: &[u32], n: usize) {
+pub(crate) fn say_words(rt: &impl Print, values: &[u32], n: usize) -> io::Result<()> {
     let mut i = 0;
     while i < n {
-        say_word(values, i);
+        say_word(rt, values, i)?;
         i += 1;
     }
+    Ok(())
 }
 
 // A byte as two hexadecimal digits.
-fn say_digits(value: u8) {
-    io::print_hex(STDOUT_FILENO, value as u64, 2);
+fn say_digits(rt: &impl Print, value: u8) -> io::Result<()> {
+    print!(rt; "{value:02x}")
 }
 
 // One of some bytes, with a space before it.
-fn say_byte(file: &[u8], i: usize) {
+fn say_byte(rt: &impl Print, file: &[u8], i: usize) -> io::Result<()> {
     if i < file.len() {
-        say(b" ");
-        say_digits(file[i]);
+        say(rt, b" ")?;
+        say_digits(rt, file[i])?;
     }
+    Ok(())
 }
 
 // The first n of some bytes.
-pub(crate) fn say_bytes(file: &[u8], n: usize) {
+pub(crate) fn say_bytes(rt: &impl Print, file: &[u8], n: usize) -> io::Result<()> {
     let mut i = 0;
     while i < n {
-        say_byte(file, i);
+        say_byte(rt, file, i)?;
         i += 1;
     }
+    Ok(())
 }
 
 // The margin of one job, with a space before it.
-fn say_margin(table: &[u32], latest: &[u32], i: usize) {
+fn say_margin(rt: &impl Print, table: &[u32], latest: &[u32], i: usize) -> io::Result<()> {
     if i < latest.len() {
-        say(b" ");
-        say_signed(judge::margin(table, Job(i), latest[i]));
+        say(rt, b" ")?;
+        say_signed(rt, judge::margin(table, Job(i), latest[i]))?;
     }
+    Ok(())
 }
 
 // The margin of each job.
-pub(crate) fn say_margins(table: &[u32], latest: &[u32]) {
+pub(crate) fn say_margins(rt: &impl Print, table: &[u32], latest: &[u32]) -> io::Result<()> {
     let n = jobs::jobs(table);
     let mut i = 0;
     while i < n {
-        say_margin(table, latest, i);
+        say_margin(rt, table, latest, i)?;
         i += 1;
     }
+    Ok(())
 }
 
-pub(crate) fn say_refused(number: u32, place: usize) {
-    say(b" refused ");
-    say_number(number);
-    say(b" at ");
-    say_place(place);
+pub(crate) fn say_refused(rt: &impl Print, number: u32, place: usize) -> io::Result<()> {
+    say(rt, b" refused ")?;
+    say_number(rt, number)?;
+    say(rt, b" at ")?;
+    say_place(rt, place)
 }
 
 // The verdict: sound, or miss with the job and its latest finish.
-pub(crate) fn say_verdict(verdict: Verdict) {
+pub(crate) fn say_verdict(rt: &impl Print, verdict: Verdict) -> io::Result<()> {
     match verdict {
-        Verdict::Sound => say(b" sound"),
+        Verdict::Sound => say(rt, b" sound"),
         Verdict::Miss(job, latest) => {
-            say(b" miss, job ");
-            say_place(job.0);
-            say(b", latest ");
-            say_number(latest);
+            say(rt, b" miss, job ")?;
+            say_place(rt, job.0)?;
+            say(rt, b", latest ")?;
+            say_number(rt, latest)
         }
     }
 }
 
 // On a miss, the named job's finish.
-pub(crate) fn say_named(verdict: Verdict, finishes: &[u32]) {
+pub(crate) fn say_named(rt: &impl Print, verdict: Verdict, finishes: &[u32]) -> io::Result<()> {
     match verdict {
-        Verdict::Sound => say(b" sound"),
+        Verdict::Sound => say(rt, b" sound"),
         Verdict::Miss(job, _) => {
-            say(b" job ");
-            say_place(job.0);
-            say(b" finishes at");
-            say_word(finishes, job.0);
+            say(rt, b" job ")?;
+            say_place(rt, job.0)?;
+            say(rt, b" finishes at")?;
+            say_word(rt, finishes, job.0)
         }
     }
 }

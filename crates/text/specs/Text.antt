@@ -1,7 +1,7 @@
 -- Texts in ASCII, piece by piece; the lines that a program gives in place of its answer; and a text in a lent buffer.
 use Rattle.std.specs.Prelude.{ℕ, zero, suc, ◌+◌, ◌-◌, ◌^◌, min, ◌≡◌, List, [], ◌∷◌, ◌++◌, length, take, drop, ltb, ℤ, pos, negsuc}
 use Prim.Native.Char.{code}
-use Prim.Native.String.{String, [] as ends, ◌∷◌ as ◌followedBy◌}
+use Prim.Native.String.{String, [] as ends, ◌∷◌ as ◌followed_by◌}
 use Rattle.io.specs.Digits.{last_digits}
 use Rattle.jobs.specs.Below.{least}
 
