@@ -1,0 +1,34 @@
+-- `schedule::events::need_of` meets its contract. The recoveries of one job come to at most 800,000, so neither the product nor the sum wraps.
+-- Assumes nothing.
+use Prim.Native.Nat.{◌*◌, ◌≤◌}
+use native.Mathlib.Omega.{arith}
+use lib.ListN.{get_or}
+use Rattle.jobs.proofs.Refusals.{good}
+use Rattle.frame.specs.Schedule.{need}
+use Rattle.frame.proofs.Bounds.{recovery_at_most}
+use Rattle.schedule.proofs.events.need_of.Goals as goal
+
+pub bounds-pattern-at : goal.bounds-pattern-at
+bounds-pattern-at c = omega (arith, c.requires.accepted.counts.long, c.requires.job_bound)
+
+-- the recoveries of this job
+recoveries : (c : goal.After-recovery)
+    → let a = c.args in
+    get_or a.pattern.now a.job.0 0 * c.recovery.result ≤ 800000
+recoveries c =
+    let a = c.args in
+    let good-table = good a.table.now c.requires.accepted.fine in
+    rw c.recovery.ensures
+    (recovery_at_most a.table.now a.pattern.now good-table 8 (omega arith) c.requires.accepted.counts a.job.0 c.requires.job_bound)
+
+pub overflow_mul-result : goal.overflow_mul-result
+overflow_mul-result c = omega (arith, recoveries c)
+
+pub overflow_add-result : goal.overflow_add-result
+overflow_add-result c =
+    let a = c.args in
+    omega (arith, recoveries c, c.run.ensures, (good a.table.now c.requires.accepted.fine).run_at_most a.job.0 c.requires.job_bound)
+
+pub returns : goal.returns
+unfolding need
+returns c = rw (c.run.ensures, c.recovery.ensures)
