@@ -1,6 +1,6 @@
 -- What the crews of the older cameras need: the rewritten file, read by today's rule, means exactly what the old file meant by the old rule, and rewriting a second
 -- time changes nothing. For the rewritten file is, byte for byte, the file that the writer writes for what the old one meant. Assumes nothing.
-use Prim.Native.Nat.{ℕ, ◌+◌, ◌≤◌}
+use Prim.Native.Nat.{ℕ, ◌≤◌}
 use native.Mathlib.Omega.{arith}
 use mathlib.Core.Path.{◌≡◌, refl, sym, ap, ◌∙◌}
 use mathlib.Core.Logic.{◌↔◌}
