@@ -5,7 +5,7 @@
 use jobs::Job;
 
 // The verdict: sound, or miss with the job and its latest finish.
-#[derive(Drop)]
+#[derive(Clone, Copy)]
 pub enum Verdict {
     Sound,
     Miss(Job, u32),

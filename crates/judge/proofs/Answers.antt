@@ -83,6 +83,10 @@ pattern_accepts table k job pattern fine =
       space = ltb-false _ _ (not-given _ 6 (jobs table) c.1);
     }
 
+-- a table that is not refused has at most 64 jobs
+pub few_jobs : (table : List ℕ) (n : ℕ) → first (table_refusals table) ≡ Fine → n ≡ jobs table → n ≤ 64
+few_jobs table n fine e = omega (arith, (good table fine).few_jobs)
+
 -- ---- a pattern that is handed out
 
 pub counts_handed : (table : List ℕ) (k job : ℕ) (counts before after : List ℕ) → first (table_refusals table) ≡ Fine → job < jobs table → Unwound table k job counts

@@ -14,7 +14,7 @@ use crate::turns::{Turn, ends_before, next_turn, skips, turn_at, turned};
 use jobs::Arrivals;
 
 // For each count of faults, how many of them are on the job.
-#[derive(Drop)]
+#[derive(Clone, Copy)]
 pub(crate) struct Picks {
     pub of: [u8; 9],
 }
@@ -103,13 +103,13 @@ pub(crate) fn trail_of<'a>(
 // The faults of each job, by job number: the notes unwound from where the walk stops.
 pub(crate) fn unwound(
     table: &[u32],
-    order: Arrivals,
+    order: &Arrivals,
     trail: Trail,
     n: usize,
     k: usize,
     own: usize,
 ) -> [u32; 64]
-    requires order_value { order ≡ by_ready table.now }
+    requires order_value { order.now ≡ by_ready table.now }
     requires trail_of { TrailOf table.now k (job_at_turn table.now own) trail }
     requires n_value { (n ≡ jobs table.now) × (n ≤ 64) × (k < 9) }
     ensures { Unwound table.now k (job_at_turn table.now own) result }

@@ -1,0 +1,10 @@
+use Prim.Native.Nat.{◌-◌, ◌≤◌}
+use Rattle.jobs.specs.Arrays.{values, Holds}
+use Rattle.latest.proofs.Steps.{picks}
+use Rattle.judge.proofs.trail.picks_of.Given as goal
+
+abbrev pub invariant-loop-w : goal.invariant-loop-w
+invariant-loop-w l = (1 ≤ l.w) × (l.w ≤ 9) × Holds 9 l.of l.w (picks l.recovery (values l.first))
+
+abbrev pub decreases-loop-w : goal.decreases-loop-w
+decreases-loop-w l = 9 - l.w
