@@ -18,25 +18,21 @@ tested : (left : List ℕ) (field v : ℕ) (b : Bool) → field < row_words → 
     → not (in_range field (get_or (row_of left) field 0)) ≡ not b
 tested left field v b h e q = rw (q, e, field_at left field h)
 
--- src/lib.rt:59:5
 pub loop-field-init : goal.loop-field-init
 loop-field-init c = (omega arith, λ i h. absurd (omega arith))
 
--- src/lib.rt:61:13
 pub returns-then-not-in_range : goal.returns-then-not-in_range
 returns-then-not-in_range c =
     let left = c.args.left.now in
     let field = c.loop-field.field in
     sym (some_at row_words (λ i. not (in_range i (get_or (row_of left) i 0))) field (omega arith) (tested left field _ _ (omega arith) c.u32_at.ensures c.in_range.ensures ∙ ap not c.if-not-in_range.true))
 
--- src/lib.rt:59:5
 pub loop-field-preserved : goal.loop-field-preserved
 loop-field-preserved c =
     let left = c.args.left.now in
     let field = c.loop-field.field in
     (omega arith, below_more _ _ c.loop-field.invariant.1 (tested left field _ _ (omega arith) c.u32_at.ensures c.in_range.ensures ∙ ap not c.if-not-in_range.false))
 
--- src/lib.rt:54:1
 pub returns : goal.returns
 returns c =
     let left = c.args.left.now in
