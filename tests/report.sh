@@ -1,6 +1,6 @@
 # The report program on the samples and on input that is no job file, and the front door. Read by tests/run, whose `step` counts each.
 here=$(pwd)
-report="'$here/target/bin/report'"
+report="'$here/crates/report/out/report'"
 door="'$here/carolwindow'"
 case_7='k 2 jobs 2 miss 1
 0 3 11 9
@@ -48,31 +48,31 @@ longest() {
 
 # A second door, in a folder with a space in its name, where nothing is built, with a stand-in for `rt` that notes its calls.
 second="$here/$out/a door"
-mkdir -p "$second/crates" $out/tools
+mkdir -p "$second/crates/report" $out/tools
 cp carolwindow "$second"
 : >"$second/crates.txt"
 for tool in sh cat dirname readlink find head mkdir touch cp rm; do ln -sf "$(command -v $tool)" $out/tools/$tool; done
 cut_short="PATH='$here/$out/tools' '$second/carolwindow' report samples/cut-short.job"
 stand_in() {
-    printf '#!/bin/sh\necho "$*" >>calls\n%s\n' "$1" >$out/tools/rt
+    printf '#!/bin/sh\necho "$*" >>../../calls\n%s\n' "$1" >$out/tools/rt
     chmod +x $out/tools/rt
 }
 builds() {
-    stand_in "mkdir -p target/bin; cp $report target/bin"
+    stand_in "mkdir -p out; cp $report out"
     says 'refused 20 at 65' "$cut_short 2>$out/told" &&
-        [ "$(wc -l <$out/told)" -eq 1 ] && grep -q 'some minutes' $out/told && [ "$(cat "$second/calls")" = 'check report' ]
+        [ "$(wc -l <$out/told)" -eq 1 ] && grep -q 'some minutes' $out/told && [ "$(cat "$second/calls")" = run ]
 }
 builds_once() {
-    says 'refused 20 at 65' "$cut_short" && [ "$(cat "$second/calls")" = 'check report' ]
+    says 'refused 20 at 65' "$cut_short" && [ "$(cat "$second/calls")" = run ]
 }
 cannot_build() {
-    touch -t 200001010000 "$second/target/bin/report"
+    touch -t 200001010000 "$second/crates/report/out/report"
     stand_in 'exit 1'
     complains "the report program could not be proved and built: see $second/target/report.log" "$cut_short" &&
-        [ "$(wc -l <"$second/calls")" -eq 2 ] && [ ! -e "$second/target/bin/report" ]
+        [ "$(wc -l <"$second/calls")" -eq 2 ] && [ ! -e "$second/crates/report/out/report" ]
 }
 
-step 'report program' sh -c "rt check report && [ -x $report ]"
+step 'report program' sh -c "cd crates/report && rt run </dev/null && touch $report"
 for job in samples/*.job; do step "report on $job" sample "$job"; done
 step 'report on case 7' says "$case_7" "$report <$out/miss.job"
 step 'report on case 14, cut off' says 'refused 20 at 5' "printf '$case_2' | head -c 24 | $report"

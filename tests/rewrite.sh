@@ -1,6 +1,6 @@
 # The rewriting program, byte for byte, and its word of the front door. What 02 says of an input is put together here from the input's own bytes. Read by
 # tests/run after tests/report.sh, whose `says` and `complains_only` it uses.
-rewrite="'$here/target/bin/rewrite'"
+rewrite="'$here/crates/rewrite/out/rewrite'"
 head_of_1='\003\000\001\000\001'
 older=samples/older-camera.job
 
@@ -35,7 +35,7 @@ printf "$head_of_1$job_0$job_1" >$out/headed.job
 tail -c +6 samples/full-frame.job >$out/full.job
 with_head $out/full.job >$out/full-headed.job
 
-step 'rewriting program' sh -c "rt check rewrite && [ -x $rewrite ]"
+step 'rewriting program' sh -c "cd crates/rewrite && rt run </dev/null && touch $rewrite"
 for job in samples/*.job; do step "rewrite $job" sample_rewritten "$job"; done
 step 'rewrite the older sample' gives samples/older-camera-rewritten.job "$rewrite <$older"
 step 'rewrite no bytes' gives $out/head.job "$rewrite <$out/empty.job"

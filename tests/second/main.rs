@@ -1,6 +1,6 @@
 //! The independent second program. It answers every ask by itself, slot by slot and pattern by pattern (reference.rs), puts the same
 //! ask to the library through its C interface (library.rs), and compares the answer and every lent list. It also runs the rewriting
-//! program of target/bin (program.rs) and compares what that writes.
+//! program (program.rs) and compares what that writes.
 //!
 //!   second              the fixed seed
 //!   second SEED         another seed

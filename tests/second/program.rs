@@ -3,9 +3,9 @@
 use std::io::Write;
 use std::process::{Command, Stdio};
 
-/// What a program below target/bin writes for this input.
+/// What a program of this name writes for this input.
 pub fn run(name: &str, input: &[u8]) -> Vec<u8> {
-    let path = format!("target/bin/{name}");
+    let path = format!("crates/{name}/out/{name}");
     let mut child = Command::new(&path)
         .stdin(Stdio::piped())
         .stdout(Stdio::piped())
