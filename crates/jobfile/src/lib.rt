@@ -18,7 +18,7 @@ pub const HEAD_BYTES: usize = 5;
 pub const JOB_BYTES: usize = 20;
 
 // What stands at a record's place: a head with its k, a job, or 01's refusal with the record's offset.
-#[derive(Drop)]
+#[derive(Clone, Copy)]
 pub enum Record {
     Head(u32),
     Job,
@@ -26,14 +26,14 @@ pub enum Record {
 }
 
 // The walk over the file: the lent bytes, and the offset of the next record.
-#[derive(Drop)]
+#[derive(Clone, Copy)]
 pub struct Reader<'a> {
     pub file: &'a [u8],
     pub at: usize,
 }
 
 // What reading a file answers: n and k, or refused with 01's number and a place.
-#[derive(Drop)]
+#[derive(Clone, Copy)]
 pub enum Contents {
     Jobs { n: usize, k: u32 },
     Refused { number: u32, place: usize },

@@ -12,7 +12,7 @@ use jobfile::{HEAD_BYTES, JOB_BYTES};
 use jobs::{Check, ROW};
 
 // What writing a file answers: its length, or refused with 01's number and a place.
-#[derive(Drop)]
+#[derive(Clone, Copy)]
 pub enum Written {
     Length(usize),
     Refused { number: u32, place: usize },

@@ -57,8 +57,8 @@ fn fill_from(buffer: &mut [u32], results: &[u32; 64], n: usize)
 }
 
 // The turn of a job.
-fn turn_of(table: &[u32], order: &Arrivals, n: usize, job: Job) -> usize
-    requires order_value { order.now ≡ by_ready table.now }
+fn turn_of(table: &[u32], order: Arrivals, n: usize, job: Job) -> usize
+    requires order_value { order ≡ by_ready table.now }
     requires n_value { (n ≡ jobs table.now) × (n ≤ 64) × (job.0 < n) }
     ensures { (result < n) × (job_at_turn table.now result ≡ job.0) }
 {
@@ -76,13 +76,13 @@ fn turn_of(table: &[u32], order: &Arrivals, n: usize, job: Job) -> usize
 // The counts of a pattern that reaches a job's latest finish, by job number.
 fn counts_of<'a>(
     table: &'a [u32],
-    order: &'a Arrivals,
+    order: Arrivals,
     turns: &'a [u32; 256],
     n: usize,
     k: usize,
     job: Job,
 ) -> [u32; 64]
-    requires order_value { order.now ≡ by_ready table.now }
+    requires order_value { order ≡ by_ready table.now }
     requires turns { Turns table.now n turns.now }
     requires k_bound { (k < 9) × (job.0 < n) }
     ensures { Unwound table.now k job.0 result }
@@ -96,12 +96,12 @@ fn counts_of<'a>(
 fn counts_for<'a>(
     verdict: Verdict,
     table: &'a [u32],
-    order: &'a Arrivals,
+    order: Arrivals,
     turns: &'a [u32; 256],
     n: usize,
     k: usize,
 ) -> [u32; 64]
-    requires order_value { order.now ≡ by_ready table.now }
+    requires order_value { order ≡ by_ready table.now }
     requires turns { Turns table.now n turns.now }
     requires k_bound { (k < 9) × (verdict ≡ verdict_of table.now k) }
     ensures { CountsFor table.now k verdict result }
@@ -124,10 +124,10 @@ fn judge_frame(table: &[u32], k: usize, finishes: &mut [u32], pattern: &mut [u32
     let order = jobs::by_ready(table);
     let ranking = jobs::by_urgency(table);
     let mut turns = [0; 256];
-    by_turn(table, &order, &ranking, n, &mut turns);
-    let late = all_latest(table, &order, &turns, n, k);
-    let verdict = verdict_on(table, &ranking, &late, n, k);
-    let counts = counts_for(verdict, table, &order, &turns, n, k);
+    by_turn(table, order, ranking, n, &mut turns);
+    let late = all_latest(table, order, &turns, n, k);
+    let verdict = verdict_on(table, ranking, &late, n, k);
+    let counts = counts_for(verdict, table, order, &turns, n, k);
     fill_from(finishes, &late, n);
     fill_from(pattern, &counts, n);
     verdict
@@ -157,8 +157,8 @@ fn hand_out(table: &[u32], k: usize, job: Job, pattern: &mut [u32])
     let order = jobs::by_ready(table);
     let ranking = jobs::by_urgency(table);
     let mut turns = [0; 256];
-    by_turn(table, &order, &ranking, n, &mut turns);
-    let counts = counts_of(table, &order, &turns, n, k, job);
+    by_turn(table, order, ranking, n, &mut turns);
+    let counts = counts_of(table, order, &turns, n, k, job);
     fill_from(pattern, &counts, n);
 }
 

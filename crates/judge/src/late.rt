@@ -13,12 +13,12 @@ use jobs::{Arrivals, Ranking};
 // The latest finish of each job, by job number.
 pub(crate) fn all_latest<'a>(
     table: &'a [u32],
-    order: &'a Arrivals,
+    order: Arrivals,
     turns: &'a [u32; 256],
     n: usize,
     k: usize,
 ) -> [u32; 64]
-    requires order_value { order.now ≡ by_ready table.now }
+    requires order_value { order ≡ by_ready table.now }
     requires turns { Turns table.now n turns.now }
     requires k_bound { k < 9 }
     ensures { Holds 64 result n (latest table.now k) }
@@ -37,12 +37,12 @@ pub(crate) fn all_latest<'a>(
 // The verdict on the latest finishes for k faults: by rank, the first job that is late is named.
 pub(crate) fn verdict_on(
     table: &[u32],
-    ranking: &Ranking,
+    ranking: Ranking,
     late: &[u32; 64],
     n: usize,
     k: usize,
 ) -> Verdict
-    requires ranking_value { ranking.now ≡ by_urgency table.now }
+    requires ranking_value { ranking ≡ by_urgency table.now }
     requires holds { Holds 64 late.now n (latest table.now k) }
     requires n_value { n ≡ jobs table.now }
     requires n_bound { n ≤ 64 }

@@ -13,7 +13,7 @@ mod turns;
 pub use asks::{judge, margin, pattern_of};
 
 // What the judge answers: the verdict, or the refusal.
-#[derive(Drop)]
+#[derive(Clone, Copy)]
 pub enum Judged {
     With(Verdict),
     Refused { number: u32, place: usize },

@@ -20,7 +20,7 @@ pub(crate) struct Picks {
 }
 
 // The notes of each turn, and where the walk stops.
-#[derive(Drop)]
+#[derive(Clone, Copy)]
 pub(crate) struct Trail {
     pub picks: [Picks; 64],
     pub stop: usize,
@@ -103,13 +103,13 @@ pub(crate) fn trail_of<'a>(
 // The faults of each job, by job number: the notes unwound from where the walk stops.
 pub(crate) fn unwound(
     table: &[u32],
-    order: &Arrivals,
+    order: Arrivals,
     trail: Trail,
     n: usize,
     k: usize,
     own: usize,
 ) -> [u32; 64]
-    requires order_value { order.now ≡ by_ready table.now }
+    requires order_value { order ≡ by_ready table.now }
     requires trail_of { TrailOf table.now k (job_at_turn table.now own) trail }
     requires n_value { (n ≡ jobs table.now) × (n ≤ 64) × (k < 9) }
     ensures { Unwound table.now k (job_at_turn table.now own) result }

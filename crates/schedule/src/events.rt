@@ -14,14 +14,14 @@ use jobs::{Check, Job, first_of, given};
 const NEVER: u32 = 10_000_000;
 
 // What the processor does: it runs the most urgent waiting job, or is idle.
-#[derive(Drop)]
+#[derive(Clone, Copy)]
 enum Choice {
     Runs(Job),
     Idle,
 }
 
 // Where the walk over the events stands: its time, and whether a job can still run.
-#[derive(Drop)]
+#[derive(Clone, Copy)]
 struct Clock {
     time: u32,
     going: bool,

@@ -16,9 +16,9 @@ const LAST_TIME: u32 = 10_000_000;
 
 // The idle slots before t. The jobs ready before t, served in the order of ready times, are done at `until`; up to then, or up to t if
 // that is later, the slots that their runs do not fill are idle, and none of those is after t.
-fn idle_before(table: &[u32], order: &Arrivals, t: u32) -> u32
+fn idle_before(table: &[u32], order: Arrivals, t: u32) -> u32
     requires table_value { first (table_refusals table.now) ≡ Fine }
-    requires order_value { order.now ≡ by_ready table.now }
+    requires order_value { order ≡ by_ready table.now }
     ensures { result ≡ count t (idle table.now (no_faults table.now)) }
 {
     let n = jobs(table);
@@ -48,7 +48,7 @@ fn idle_between(table: &[u32], a: u32, b: u32) -> u32
         return 0;
     }
     let order = by_ready(table);
-    idle_before(table, &order, b) - idle_before(table, &order, a)
+    idle_before(table, order, b) - idle_before(table, order, a)
 }
 
 // Refusal 9.

@@ -9,7 +9,7 @@ pub use events::{fault_free, schedule};
 pub use idle::free_slots;
 
 // A count of free slots, or the refusal.
-#[derive(Drop)]
+#[derive(Clone, Copy)]
 pub enum Free {
     Slots(u32),
     Refused { number: u32, place: usize },

@@ -17,12 +17,12 @@ bounds-order-q c = lt_of_lt_of_le c.loop-q-test.true c.requires.n_value.1
 pub returns-then-other-job : goal.returns-then-other-job
 returns-then-other-job c =
     let a = c.args in
-    (c.loop-q-test.true, sym (turn-job a.table.now a.order.now a.n c.loop-q.q c.requires.order_value c.requires.n_value.0 c.requires.n_value.1 c.loop-q-test.true) ∙ c.if-other-job.true)
+    (c.loop-q-test.true, sym (turn-job a.table.now a.order a.n c.loop-q.q c.requires.order_value c.requires.n_value.0 c.requires.n_value.1 c.loop-q-test.true) ∙ c.if-other-job.true)
 
 pub loop-q-preserved : goal.loop-q-preserved
 loop-q-preserved c =
     let a = c.args in
-    (add-one-le c.loop-q-test.true, below_more _ _ c.loop-q.invariant.1 (λ e. c.if-other-job.false (turn-job a.table.now a.order.now a.n c.loop-q.q c.requires.order_value c.requires.n_value.0 c.requires.n_value.1 c.loop-q-test.true ∙ e)))
+    (add-one-le c.loop-q-test.true, below_more _ _ c.loop-q.invariant.1 (λ e. c.if-other-job.false (turn-job a.table.now a.order a.n c.loop-q.q c.requires.order_value c.requires.n_value.0 c.requires.n_value.1 c.loop-q-test.true ∙ e)))
 
 pub returns : goal.returns
 returns c =

@@ -23,7 +23,7 @@ latest_at-requires c =
 pub bounds-late-at : goal.bounds-late-at
 bounds-late-at c =
     let a = c.args in
-    lt_of_lt_of_le (turn_below a.table.now a.order.now a.n c.loop-q.q c.requires.order_value c.requires.turns.all c.requires.turns.few c.loop-q-test.true) c.requires.turns.few
+    lt_of_lt_of_le (turn_below a.table.now a.order a.n c.loop-q.q c.requires.order_value c.requires.turns.all c.requires.turns.few c.loop-q-test.true) c.requires.turns.few
 
 pub offset_bounds-late-at : goal.offset_bounds-late-at
 offset_bounds-late-at c = omega (arith, bounds-late-at c)
@@ -31,10 +31,10 @@ offset_bounds-late-at c = omega (arith, bounds-late-at c)
 pub loop-q-preserved : goal.loop-q-preserved
 loop-q-preserved c =
     let a = c.args in
-    let below = turn_below a.table.now a.order.now a.n c.loop-q.q c.requires.order_value c.requires.turns.all c.requires.turns.few c.loop-q-test.true in (
+    let below = turn_below a.table.now a.order a.n c.loop-q.q c.requires.order_value c.requires.turns.all c.requires.turns.few c.loop-q-test.true in (
       add-one-le c.loop-q-test.true,
       late_more a.table.now a.k c.loop-q.q _ c.latest_at.result c.loop-q.late
-          (turn-job a.table.now a.order.now a.n c.loop-q.q c.requires.order_value c.requires.turns.all c.requires.turns.few c.loop-q-test.true)
+          (turn-job a.table.now a.order a.n c.loop-q.q c.requires.order_value c.requires.turns.all c.requires.turns.few c.loop-q-test.true)
           (lt_of_lt_of_le below c.requires.turns.few)
           c.latest_at.ensures
           c.loop-q.invariant.1,

@@ -18,14 +18,14 @@ bounds-ranking-r c = lt_of_lt_of_le c.loop-r-test.true c.requires.n_bound
 pub bounds-late-at : goal.bounds-late-at
 bounds-late-at c =
     let a = c.args in
-    lt_of_lt_of_le (rank_job_below a.table.now a.k a.ranking.now a.n c.loop-r.r c.requires.ranking_value c.requires.n_value c.requires.n_bound c.loop-r-test.true) c.requires.n_bound
+    lt_of_lt_of_le (rank_job_below a.table.now a.k a.ranking a.n c.loop-r.r c.requires.ranking_value c.requires.n_value c.requires.n_bound c.loop-r-test.true) c.requires.n_bound
 
 pub offset_bounds-late-at : goal.offset_bounds-late-at
 offset_bounds-late-at c =
     let a = c.args in
     omega (
       arith,
-      rank_job_below a.table.now a.k a.ranking.now a.n c.loop-r.r c.requires.ranking_value c.requires.n_value c.requires.n_bound c.loop-r-test.true,
+      rank_job_below a.table.now a.k a.ranking a.n c.loop-r.r c.requires.ranking_value c.requires.n_value c.requires.n_bound c.loop-r-test.true,
       c.requires.n_bound,
     )
 
@@ -33,8 +33,8 @@ pub returns-then-deadline-end : goal.returns-then-deadline-end
 returns-then-deadline-end c =
     let a = c.args in
     named_here a.table.now a.k c.loop-r.r _ _ c.deadline.result (rw c.requires.n_value at c.loop-r-test.true) c.loop-r.invariant.1
-    (rank_job a.table.now a.k a.ranking.now a.n c.loop-r.r c.requires.ranking_value c.requires.n_value c.requires.n_bound c.loop-r-test.true)
-    (c.requires.holds.each _ (rank_job_below a.table.now a.k a.ranking.now a.n c.loop-r.r c.requires.ranking_value c.requires.n_value c.requires.n_bound c.loop-r-test.true))
+    (rank_job a.table.now a.k a.ranking a.n c.loop-r.r c.requires.ranking_value c.requires.n_value c.requires.n_bound c.loop-r-test.true)
+    (c.requires.holds.each _ (rank_job_below a.table.now a.k a.ranking a.n c.loop-r.r c.requires.ranking_value c.requires.n_value c.requires.n_bound c.loop-r-test.true))
     c.deadline.ensures
     c.if-deadline-end.true
 
@@ -43,8 +43,8 @@ loop-r-preserved c =
     let a = c.args in (
       add-one-le c.loop-r-test.true,
       met_here a.table.now a.k c.loop-r.r _ _ c.deadline.result (rw c.requires.n_value at c.loop-r-test.true) c.loop-r.invariant.1
-          (rank_job a.table.now a.k a.ranking.now a.n c.loop-r.r c.requires.ranking_value c.requires.n_value c.requires.n_bound c.loop-r-test.true)
-          (c.requires.holds.each _ (rank_job_below a.table.now a.k a.ranking.now a.n c.loop-r.r c.requires.ranking_value c.requires.n_value c.requires.n_bound c.loop-r-test.true))
+          (rank_job a.table.now a.k a.ranking a.n c.loop-r.r c.requires.ranking_value c.requires.n_value c.requires.n_bound c.loop-r-test.true)
+          (c.requires.holds.each _ (rank_job_below a.table.now a.k a.ranking a.n c.loop-r.r c.requires.ranking_value c.requires.n_value c.requires.n_bound c.loop-r-test.true))
           c.deadline.ensures
           c.if-deadline-end.false,
     )

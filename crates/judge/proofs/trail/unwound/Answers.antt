@@ -40,7 +40,7 @@ overflow_cast-counts c =
 pub bounds-counts-at : goal.bounds-counts-at
 bounds-counts-at c =
     let a = c.args in
-    lt_of_lt_of_le (turn_below a.table.now a.order.now a.n (c.loop-p.p - 1) c.requires.order_value c.requires.n_value.0 c.requires.n_value.1 (turn_before a.table.now a.k (job_at_turn a.table.now a.own) a.n c.loop-p.p c.loop-p.w c.loop-p.counts c.requires.n_value.0 c.loop-p-test.true c.loop-p.invariant)) c.requires.n_value.1
+    lt_of_lt_of_le (turn_below a.table.now a.order a.n (c.loop-p.p - 1) c.requires.order_value c.requires.n_value.0 c.requires.n_value.1 (turn_before a.table.now a.k (job_at_turn a.table.now a.own) a.n c.loop-p.p c.loop-p.w c.loop-p.counts c.requires.n_value.0 c.loop-p-test.true c.loop-p.invariant)) c.requires.n_value.1
 
 pub offset_bounds-counts-at : goal.offset_bounds-counts-at
 offset_bounds-counts-at c = omega (arith, bounds-counts-at c)
@@ -59,7 +59,7 @@ pub loop-p-preserved : goal.loop-p-preserved
 loop-p-preserved c =
     let a = c.args in
     unwinding_more a.table.now a.k (job_at_turn a.table.now a.own) c.loop-p.p c.loop-p.w _ _ c.loop-p.counts c.loop-p-test.true (rw c.requires.n_value.0 at c.requires.n_value.1)
-    (turn-job a.table.now a.order.now a.n (c.loop-p.p - 1) c.requires.order_value c.requires.n_value.0 c.requires.n_value.1 (turn_before a.table.now a.k (job_at_turn a.table.now a.own) a.n c.loop-p.p c.loop-p.w c.loop-p.counts c.requires.n_value.0 c.loop-p-test.true c.loop-p.invariant))
+    (turn-job a.table.now a.order a.n (c.loop-p.p - 1) c.requires.order_value c.requires.n_value.0 c.requires.n_value.1 (turn_before a.table.now a.k (job_at_turn a.table.now a.own) a.n c.loop-p.p c.loop-p.w c.loop-p.counts c.requires.n_value.0 c.loop-p-test.true c.loop-p.invariant))
     (note_is a.table.now a.k (job_at_turn a.table.now a.own) a.trail c.loop-p.p c.loop-p.w _ c.loop-p.counts c.requires.trail_of c.loop-p-test.true (lt_of_le_of_lt c.loop-p.invariant.few c.requires.n_value.2) c.loop-p.invariant)
     c.loop-p.invariant
 

@@ -34,7 +34,7 @@ stopped : (c : goal.After-larger)
 stopped c =
     let a = c.args in
     let l = c.loop-i in
-    let here = this-job a.table.now a.order.now l.i (good c.args.table.now c.requires.table_value) (omega (arith, c.jobs-n.ensures)) c.requires.order_value in
+    let here = this-job a.table.now a.order l.i (good c.args.table.now c.requires.table_value) (omega (arith, c.jobs-n.ensures)) c.requires.order_value in
     let late : a.t ≤ comes_at a.table.now l.i = omega (arith, c.if-t-came.true, c.ready-came.ensures ∙ ap (λ j. ready a.table.now j.0) here) in
     served_all a.table.now a.t l.i l.until l.runs (λ k. late) l.invariant.1 ∙ sym c.larger.ensures
 
@@ -53,7 +53,7 @@ served c =
     let a = c.args in
     let l = c.loop-i in
     let below : l.i < jobs a.table.now = omega (arith, c.jobs-n.ensures) in
-    let here = this-job a.table.now a.order.now l.i (good c.args.table.now c.requires.table_value) below c.requires.order_value in
+    let here = this-job a.table.now a.order l.i (good c.args.table.now c.requires.table_value) below c.requires.order_value in
     rw c.larger-in-loop-i.ensures
     (served_more a.table.now a.t l.i l.until l.runs _ _ _ below here c.ready-came.ensures c.run-longest.ensures
     c.if-t-came.false l.invariant.1)
