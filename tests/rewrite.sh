@@ -35,7 +35,7 @@ printf "$head_of_1$job_0$job_1" >$out/headed.job
 tail -c +6 samples/full-frame.job >$out/full.job
 with_head $out/full.job >$out/full-headed.job
 
-step 'rewriting program' sh -c "cd crates/rewrite && rt run </dev/null && touch $rewrite"
+step 'rewriting program' sh -c "cd crates/rewrite && rt run </dev/null && [ -x $rewrite ] && touch $rewrite"
 for job in samples/*.job; do step "rewrite $job" sample_rewritten "$job"; done
 step 'rewrite the older sample' gives samples/older-camera-rewritten.job "$rewrite <$older"
 step 'rewrite no bytes' gives $out/head.job "$rewrite <$out/empty.job"
