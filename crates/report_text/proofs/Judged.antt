@@ -20,7 +20,9 @@ use Rattle.judge.specs.Asks.{judge_refusals, Judging, HandedFor}
 use Rattle.judge.specs.declared.Judged.{Judged}
 use Rattle.judge.specs.declared.Judged.TheVariants.{With}
 use Rattle.judge.proofs.Answers.{judge_refusals_lem}
-use Rattle.text.specs.Text.{each, Adds}
+use Rattle.text.specs.Text.{each}
+use Rattle.text.specs.Growing.{Puts}
+use Rattle.text.specs.declared.Text.{Text}
 use Rattle.report_text.specs.Report.{job_line, job_lines, pattern_line, first_line, lines, Judges}
 use Rattle.report_text.specs.Writing.{Writes}
 
@@ -49,13 +51,13 @@ module _ (table : List ℕ) (k : ℕ) (fine : first (table_refusals table) ≡ F
     handed : HandedFor table k (verdict table k) (replicate 64 0) pattern
     handed = rw accepted at j.hands
 
-    pub judged_writes : (v : Verdict) → answer ≡ With v → (early : List ℕ) → early ≡ fault_free_finishes table → (b : List ℕ) (at : ℕ) (b' : List ℕ) (at' : ℕ)
-        → Adds (lines table k v (λ i. get_or early i 0) (λ i. get_or late i 0) pattern) b at b' at' → Writes (Judges table k) b at b' at'
-    judged_writes v e early f b at b' at' a =
+    pub judged_writes : (v : Verdict) → answer ≡ With v → (early : List ℕ) → early ≡ fault_free_finishes table → {t u : Text}
+        → Puts (lines table k v (λ i. get_or early i 0) (λ i. get_or late i 0) pattern) t u → Writes (Judges table k) t u
+    judged_writes v e early f puts =
         record {
-          text = lines table k v (λ i. get_or early i 0) (λ i. get_or late i 0) pattern;
+          piece = lines table k v (λ i. get_or early i 0) (λ i. get_or late i 0) pattern;
           is = record { buffer = replicate 64 0; pattern = pattern; handed = handed; reads = same };
-          added = a;
+          put = puts;
         }
       where
         named : v ≡ verdict table k

@@ -5,8 +5,10 @@ use native.Mathlib.Omega.{arith}
 use mathlib.Core.Path.{◌≡◌, refl, sym, ap, ◌∙◌}
 use mathlib.Core.Bool.{true, false}
 use mathlib.Core.List.{List, [], ◌∷◌, ◌++◌}
-use lib.ListN.{length, get_or, replicate}
-use lib.Dec.{eqb, lit≤}
+use lib.ListN.{length, replicate}
+use lib.Dec.{lit≤}
+use Rattle.std.specs.Prelude.{nat_eq}
+use Rattle.std.specs.List.{starts_with}
 use borrow.Author.Tests.{lt-ltb, le-ltb, eq-eqb, ne_eqb}
 use Rattle.text.specs.Text.{refusal, most_bytes, too_long}
 use Rattle.jobfile.specs.Bytes.{number}
@@ -46,18 +48,13 @@ module _ (file : List ℕ) (contents : Contents) (table : List ℕ) (read : Read
 
 -- ---- whether a good file has a head, and the file with one
 
-pub empty_headless : (file : List ℕ) → length file ≡ 0 → false ≡ headed file
-unfolding record_at
-empty_headless [] e = refl
-empty_headless (b ∷ file) e = absurd (omega arith)
-
-pub headed-first_byte : (file : List ℕ) (room : ℕ) → Good file room → 0 < length file → eqb (get_or file 0 0) 3 ≡ headed file
-unfolding number meaning
-headed-first_byte [] room good l = absurd (omega arith)
-headed-first_byte (b ∷ left) room good l =
+pub headed-first_byte : (file : List ℕ) (room : ℕ) → Good file room → starts_with nat_eq file (3 ∷ []) ≡ headed file
+unfolding number meaning record_at
+headed-first_byte [] room good = refl
+headed-first_byte (b ∷ left) room good =
     by-record (record_at (b ∷ left) 0 0)
-    (λ k r. eq-eqb b 3 (omega (arith, (as_head (b ∷ left) 0 0 k r).long)) ∙ sym (ap is_head r))
-    (λ r. ne_eqb b 3 (λ e. omega (arith, (as_job (b ∷ left) 0 0 r).long)) ∙ sym (ap is_head r))
+    (λ k r. rw (eq-eqb 3 b (omega (arith, (as_head (b ∷ left) 0 0 k r).long))) (sym (ap is_head r)))
+    (λ r. rw (ne_eqb 3 b (λ e. omega (arith, (as_job (b ∷ left) 0 0 r).long))) (sym (ap is_head r)))
     (λ number place r.
     let bad = walk_bad (b ∷ left) 0 0 headless_k number place (omega arith) r in
     let means = good.means in
