@@ -15,7 +15,7 @@ use Rattle.jobfile.specs.Meaning.{meaning, ReadsTo}
 use Rattle.jobfile.specs.declared.Contents.{Contents}
 use Rattle.jobfile.specs.declared.Contents.TheVariants.{Jobs, Refused}
 use Rattle.jobfile_laws.proofs.Promises.{RowsRead, rows_read, refusal_read}
-use Rattle.text.specs.Text.{refusal, too_long, most_bytes, Adds}
+use Rattle.text.specs.Text.{refusal, too_long, most_bytes}
 use Rattle.text.specs.Growing.{Begins, Puts}
 use Rattle.text.specs.declared.Text.{Text}
 use Rattle.std.specs.Borrow.{MutBor}

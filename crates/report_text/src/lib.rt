@@ -67,7 +67,7 @@ impl Reported<'_> {
         text.put_labelled(b" ", u64::from(early));
         text.put_labelled(b" ", u64::from(late));
         text.put(b" ");
-        text.put_signed(jobs::deadline(self.table, job), late);
+        text.put_signed(judge::margin(self.table, job, late));
         text.put(b"\n");
     }
 
@@ -127,7 +127,8 @@ fn put_judged(text: &mut Text<'_>, table: &[u32], k: u32)
             early: &early,
             late: &late,
             pattern: &pattern,
-        }.put_lines(text),
+        }
+        .put_lines(text),
         Judged::Refused {
             number: _,
             place: _,

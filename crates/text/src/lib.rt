@@ -3,7 +3,6 @@
 #![tactic(auto)]
 
 ghost use Rattle.std.specs.Prelude.{◌≡◌, ◌≤◌, ◌++◌, length};
-ghost use Rattle.std.proofs.Math.IntN.{sub_ℕ};
 ghost use Rattle.text.specs.Text.{decimal, signed, refusal, too_long};
 
 // The most bytes that an input may have.
@@ -62,14 +61,14 @@ impl<'a> Text<'a> {
         self.put_decimal(n);
     }
 
-    // One number less another, signed.
-    pub fn put_signed(&mut self, number: u32, less: u32)
-        ensures { Puts (signed (sub_ℕ number less)) self.old self.new }
+    // A signed number in decimal.
+    pub fn put_signed(&mut self, n: i64)
+        ensures { Puts (signed n) self.old self.new }
     {
-        if number < less {
-            return self.put_labelled(b"-", u64::from(less - number));
+        if n < 0 {
+            self.put(b"-");
         }
-        self.put_decimal(u64::from(number - less));
+        self.put_decimal(n.unsigned_abs());
     }
 
     // The line of a refusal.
