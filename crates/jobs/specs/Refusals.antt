@@ -52,6 +52,11 @@ abbrev pub first : List Check → Check
 first [] = fine
 first (c ∷ cs) = after c (first cs)
 
+-- A value, unless there is a refusal.
+abbrev pub granted : {A : Type 0} → Check → A → Result A Refusal
+granted (Ok _) value = Ok value
+granted (Err refusal) value = Err refusal
+
 -- 1: table length not a multiple of 4; place: length.
 abbrev pub cut_row : List ℕ → Check
 cut_row table = given (not (eqb (length table % row_words) 0)) CutRow (length table)
