@@ -10,10 +10,9 @@ use lib.Seq.{get_or-set_same, get_or-set_other}
 use lib.Dec.{eqb}
 use borrow.Author.Tests.{eqb-true, eqb-false}
 use Rattle.jobs.specs.Table.{jobs, recovery}
-use Rattle.jobs.specs.Refusals.{first, table_refusals}
+use Rattle.jobs.specs.Refusals.{fine, first, table_refusals}
 use Rattle.jobs.specs.Orders.{the_job, held, filled}
 use Rattle.jobs.specs.Arrays.{Holds, Fit, values}
-use Rattle.jobs.specs.declared.Check.TheVariants.{Fine}
 use Rattle.jobs.specs.declared.Job.{Job}
 use Rattle.jobs.proofs.Below.{by_cases, below_suc}
 use Rattle.jobs.proofs.Placed.{get_or-filled}
@@ -49,7 +48,7 @@ pub record Walked (table : List ℕ) (k : ℕ) (buffer : List ℕ) (p : ℕ) (ce
   pub delayed : (job : ℕ) → job < jobs table → place_of table job < p → get_or now job 0 ≡ delay table k job
   pub others : (i : ℕ) → jobs table ≤ i → get_or now i 0 ≡ get_or buffer i 0
 
-module _ (table : List ℕ) (k : ℕ) (buffer : List ℕ) (fine : first (table_refusals table) ≡ Fine) (small : k < 9) (room : jobs table ≤ length buffer) where
+module _ (table : List ℕ) (k : ℕ) (buffer : List ℕ) (none : first (table_refusals table) ≡ fine) (small : k < 9) (room : jobs table ≤ length buffer) where
   pub walked_none : Walked table k buffer 0 (replicate 9 0) 0 buffer
   unfolding rows last_finish
   walked_none =
@@ -72,8 +71,8 @@ module _ (table : List ℕ) (k : ℕ) (buffer : List ℕ) (fine : first (table_r
     below = place_below table p l job here
 
     -- the free slots since the last finish may be asked
-    pub next_accepted : (end : ℕ) → end ≡ fault_free table job.0 → first (free_slots_refusals table last end) ≡ Fine
-    next_accepted end e = rw (w.since, e) (finishes_accepted table fine p job.0 (omega arith) below)
+    pub next_accepted : (end : ℕ) → end ≡ fault_free table job.0 → first (free_slots_refusals table last end) ≡ fine
+    next_accepted end e = rw (w.since, e) (finishes_accepted table none p job.0 (omega arith) below)
 
     -- another job of the first p + 1 places is one of the first p
     earlier_place : (i : ℕ) → i < jobs table → (i ≡ job.0 → ⊥) → place_of table i < p + 1 → place_of table i < p
@@ -94,7 +93,7 @@ module _ (table : List ℕ) (k : ℕ) (buffer : List ℕ) (fine : first (table_r
             fits =
                 λ u m.
                 rw (next_is u m)
-                (omega (arith, rows_fit (free_at table) (recovery_at table) 100000 (suc p) u (λ q i. (good table fine).recovery_at_most (job_at_place table q) ((places table).at_below q (omega arith)))));
+                (omega (arith, rows_fit (free_at table) (recovery_at table) 100000 (suc p) u (λ q i. (good table none).recovery_at_most (job_at_place table q) ((places table).at_below q (omega arith)))));
           }
 
       -- the row's entry for k is this job's delay
@@ -103,7 +102,7 @@ module _ (table : List ℕ) (k : ℕ) (buffer : List ℕ) (fine : first (table_r
           h.each k small
           ∙ next_is k small
           ∙ ap (λ q. delay_row table (suc q) k) (sym ((places table).number_at p l))
-          ∙ sym (delay_is_formula table k (job_at_place table p) (good table fine) ((places table).at_below p l))
+          ∙ sym (delay_is_formula table k (job_at_place table p) (good table none) ((places table).at_below p l))
           ∙ ap (delay table k) (sym at)
 
       pub walked_more : (next : List ℕ) → Holds 9 next 9 (next_row free recovers (values cells)) → Walked table k buffer (p + 1) next end (set now job.0 (get_or next k 0))

@@ -12,8 +12,7 @@ mod row;
 
 ghost use Rattle.std.specs.Prelude.{◌≡◌, ◌<◌, ◌≤◌, length};
 ghost use Rattle.jobs.specs.Table.{jobs};
-ghost use Rattle.jobs.specs.Refusals.{first, table_refusals};
-ghost use Rattle.jobs.specs.declared.Check.TheVariants.{Fine};
+ghost use Rattle.jobs.specs.Refusals.{fine, first, table_refusals};
 ghost use Rattle.frame.specs.Schedule.{free_slots};
 ghost use Rattle.frame.specs.Delays.{delay};
 ghost use Rattle.schedule.specs.Asks.{free_slots_refusals, fill};
@@ -21,36 +20,33 @@ ghost use Rattle.delays.specs.Ask.{delays_refusals, Delayed};
 
 use crate::finishing::by_finish;
 use crate::row::next_row;
-use jobs::{Check, check_faults, check_table, first_of, given, jobs, recovery};
-use schedule::{Free, fault_free, free_slots};
+use jobs::{Reason, Refusal, check_faults, check_table, given, jobs, recovery};
+use schedule::{fault_free, free_slots};
 
 // The refusals of delays, in their order: 1, 2, 3, 4, 5.
-fn check_delays(table: &[u32], k: u32, room: usize) -> Check
+fn check_delays(table: &[u32], k: u32, room: usize) -> Result<(), Refusal>
     ensures { result ≡ first (delays_refusals table.now k room) }
 {
     let n = jobs(table);
-    let faults = check_faults(k);
-    let short = given(room < n, 5, n);
-    first_of(check_table(table), first_of(faults, short))
+    check_table(table)?;
+    check_faults(k)?;
+    given(room < n, Reason::ShortBuffer, n)
 }
 
 // The free slots between two finishes. No finish is so late that free slots would refuse it.
 fn free_between(table: &[u32], a: u32, b: u32) -> u32
-    requires { first (free_slots_refusals table.now a b) ≡ Fine }
+    requires { first (free_slots_refusals table.now a b) ≡ fine }
     ensures { result ≡ free_slots table.now a b }
 {
     match free_slots(table, a, b) {
-        Free::Slots(count) => count,
-        Free::Refused {
-            number: _,
-            place: _,
-        } => 0,
+        Ok(count) => count,
+        Err(_) => 0,
     }
 }
 
 // The walk over the finishes in their order: each row is made from the last, and its entry for k is the delay of the job that finishes there.
 fn fill_delays(table: &[u32], k: usize, delays: &mut [u32])
-    requires table_value { first (table_refusals table.now) ≡ Fine }
+    requires table_value { first (table_refusals table.now) ≡ fine }
     requires k_bound { k < 9 }
     requires table_in_bounds { jobs table.now ≤ length delays.old }
     ensures { delays.new ≡ fill (jobs table.now) (delay table.now k) delays.old }
@@ -74,18 +70,10 @@ fn fill_delays(table: &[u32], k: usize, delays: &mut [u32])
 }
 
 // Delays: for a table and k, taking all its jobs, the delay for w = k at each job's fault-free finish, in job order, or the refusal.
-pub fn delays(table: &[u32], k: u32, delays: &mut [u32]) -> Check
+pub fn delays(table: &[u32], k: u32, delays: &mut [u32]) -> Result<(), Refusal>
     ensures { Delayed table.now k delays.old delays.new result }
 {
-    let answer = check_delays(table, k, delays.len());
-    match answer {
-        Check::Fine => {
-            fill_delays(table, k as usize, delays);
-            Check::Fine
-        }
-        Check::Refused { number, place } => Check::Refused {
-            number: number,
-            place: place,
-        },
-    }
+    check_delays(table, k, delays.len())?;
+    fill_delays(table, k as usize, delays);
+    Ok(())
 }

@@ -3,8 +3,6 @@ ghost use Rattle.std.specs.Prelude.{◌≡◌, ◌-◌};
 ghost use Rattle.jobs.specs.Arrays.{Holds, Fit, values};
 ghost use Rattle.delays.specs.Rows.{next_row};
 
-use jobs::larger;
-
 // What is left of some work after free slots, not below zero.
 pub(crate) fn less(work: u32, free: u32) -> u32
     ensures { result ≡ work - free }
@@ -20,7 +18,7 @@ pub(crate) fn next_row(last: [u32; 9], free: u32, recovery: u32) -> [u32; 9]
     let mut next = [0; 9];
     let mut w = 1;
     while w < 9 {
-        next[w] = larger(less(last[w], free), next[w - 1] + recovery);
+        next[w] = less(last[w], free).max(next[w - 1] + recovery);
         w += 1;
     }
     next

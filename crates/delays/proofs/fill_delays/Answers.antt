@@ -3,8 +3,7 @@
 -- Assumes nothing.
 use Prim.Native.Nat.{ℕ, ◌≤◌, ◌<◌}
 use mathlib.Core.List.{List}
-use Rattle.jobs.specs.Refusals.{first, table_refusals}
-use Rattle.jobs.specs.declared.Check.TheVariants.{Fine}
+use Rattle.jobs.specs.Refusals.{fine, first, table_refusals}
 use Rattle.jobs.specs.declared.Job.{Job}
 use Rattle.schedule.specs.Asks.{fault_free_finishes}
 use native.Mathlib.Omega.{arith}
@@ -28,10 +27,10 @@ record Turn (table finishes : List ℕ) (order : List Job) (p : ℕ) : Type 0 wh
   pub job-below : (get_or order p (the_job 0)).0 < jobs table
   pub this-finish : get_or finishes (get_or order p (the_job 0)).0 0 ≡ fault_free table (get_or order p (the_job 0)).0
 
-turn : (table finishes : List ℕ) (order : List Job) (p : ℕ) → first (table_refusals table) ≡ Fine → finishes ≡ fault_free_finishes table
+turn : (table finishes : List ℕ) (order : List Job) (p : ℕ) → first (table_refusals table) ≡ fine → finishes ≡ fault_free_finishes table
     → order ≡ filled the_job (held table) (job_at_place table) → p < jobs table → Turn table finishes order p
-turn table finishes order p fine e o below =
-    let f = fault_free_finishes_lem table fine finishes e in
+turn table finishes order p none e o below =
+    let f = fault_free_finishes_lem table none finishes e in
     let here = order_is_places table order p f.few below o in
     let job-below = place_below table p below _ here in
     record { below = below; few = f.few; this-job = here; job-below = job-below; this-finish = f.holds.each _ job-below }

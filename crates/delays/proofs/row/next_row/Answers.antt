@@ -28,7 +28,7 @@ loop-w-preserved c =
     let w = c.loop-w.w in (
       omega arith,
       omega arith,
-      holds_more 9 c.loop-w.next w (next_row a.free a.recovery (values a.last)) c.larger.result (omega arith) c.loop-w.invariant.2
+      holds_more 9 c.loop-w.next w (next_row a.free a.recovery (values a.last)) c.max.result (omega arith) c.loop-w.invariant.2
           (omega (
             arith,
             c.loop-w.invariant.2.each (w - 1) (omega arith),
