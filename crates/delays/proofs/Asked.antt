@@ -7,6 +7,7 @@ use mathlib.Core.List.{List}
 use lib.ListN.{length, replicate}
 use borrow.Author.Tests.{le-ltb}
 use Rattle.jobs.specs.Table.{jobs}
+use Rattle.jobs.specs.Arrays.{Holds}
 use Rattle.jobs.specs.Refusals.{fine, first, table_refusals}
 use Rattle.jobs.proofs.Refusals.{Good, good}
 use Rattle.frame.specs.Schedule.{no_faults}
@@ -15,10 +16,15 @@ use Rattle.frame.proofs.Bounds.{finish_at_most}
 use Rattle.schedule.specs.Asks.{fault_free_finishes, too_late, fill}
 use Rattle.schedule.proofs.FaultFree.{zeros_few}
 use Rattle.schedule.proofs.Fill.{length-fill, fill_at}
-use Rattle.delays.specs.Places.{job_at_place, last_finish, Finishes}
+use Rattle.delays.specs.Places.{job_at_place, last_finish}
 use Rattle.delays.proofs.Places.{places}
 
 -- ---- the fault-free finishes
+
+-- The fault-free finishes of a table of at most 64 jobs, in an array of 64 words.
+pub record Finishes (table finishes : List ℕ) : Type 0 where
+  pub few : jobs table ≤ 64
+  pub holds : Holds 64 finishes (jobs table) (fault_free table)
 
 pub fault_free_finishes_lem : (table finishes : List ℕ) → first (table_refusals table) ≡ fine → finishes ≡ fault_free_finishes table → Finishes table finishes
 fault_free_finishes_lem table finishes none e =

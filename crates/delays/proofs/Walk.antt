@@ -12,12 +12,12 @@ use lib.Dec.{eqb}
 use borrow.Author.Tests.{eqb-true, eqb-false}
 use Rattle.jobs.specs.Table.{jobs, recovery}
 use Rattle.jobs.specs.Refusals.{fine, first, table_refusals}
-use Rattle.jobs.specs.Orders.{the_job, held, filled}
+use Rattle.jobs.specs.Orders.{the_job, held_of, in_order}
 use Rattle.jobs.specs.Arrays.{Holds, Fit, values}
 use Rattle.jobs.specs.declared.Job.{Job}
 use Rattle.jobs.proofs.Below.{by_cases, below_suc}
 use Rattle.jobs.proofs.Placed.{length-filled, get_or-filled}
-use Rattle.jobs.proofs.Orders.{held_all}
+use Rattle.jobs.proofs.Orders.{held_at_most, held_all, job_at_same}
 use Rattle.jobs.proofs.Refusals.{Good, good}
 use Rattle.jobs.proofs.Arrays.{holds_same, holds_zeros}
 use Rattle.frame.specs.Schedule.{free_slots}
@@ -25,10 +25,10 @@ use Rattle.frame.specs.Delays.{fault_free, delay}
 use Rattle.schedule.specs.Asks.{fault_free_finishes, too_late, fill}
 use Rattle.schedule.proofs.Fill.{written-fill}
 use Rattle.delays.specs.Rows.{next_row, rows}
-use Rattle.delays.specs.Places.{Finishes, place_of, job_at_place, last_finish, free_at, recovery_at, delay_row}
+use Rattle.delays.specs.Places.{place_of, job_at_place, last_finish, free_at, recovery_at, delay_row}
 use Rattle.delays.proofs.Rows.{next_same, rows_fit}
 use Rattle.delays.proofs.Places.{places}
-use Rattle.delays.proofs.Asked.{fault_free_finishes_lem, finishes_in_time}
+use Rattle.delays.proofs.Asked.{Finishes, fault_free_finishes_lem, finishes_in_time}
 use Rattle.delays.proofs.Formula.{delay_is_formula}
 
 -- ---- what a turn knows
@@ -42,23 +42,32 @@ pub record Turn (table finishes : List ℕ) (p : ℕ) (job : Job) : Type 0 where
   pub ends : get_or finishes job.0 0 ≡ fault_free table job.0
 
 module _ (table finishes : List ℕ) (order : List Job) (n : ℕ) (none : first (table_refusals table) ≡ fine) (e : finishes ≡ fault_free_finishes table)
-    (o : order ≡ filled the_job (held table) (job_at_place table)) (all : n ≡ jobs table) where
+    (o : order ≡ in_order (take n finishes)) (all : n ≡ jobs table) where
   f : Finishes table finishes
   f = fault_free_finishes_lem table finishes none e
 
+  keys : length (take n finishes) ≡ jobs table
+  keys = omega (arith, length-take n finishes, f.holds.long, f.few, all)
+
   -- as many turns as jobs
   pub turns : length (take n order) ≡ jobs table
+  unfolding in_order
   turns =
-      let long : length order ≡ 64 = ap length o ∙ length-filled the_job (held table) (job_at_place table) (rw (held_all table f.few) f.few) in
+      let long : length order ≡ 64 = ap length o ∙ length-filled the_job (held_of (length (take n finishes))) _ (held_at_most (length (take n finishes))) in
       omega (arith, length-take n order, long, all, f.few)
+
+  -- the job that is handed over at a place
+  order_is_places : (p : ℕ) → p < jobs table → get_or order p (the_job 0) ≡ the_job (job_at_place table p)
+  unfolding in_order
+  order_is_places p l =
+      ap (λ jobs. get_or jobs p (the_job 0)) o
+      ∙ get_or-filled the_job (held_of (length (take n finishes))) _ (the_job 0) p (rw (keys, held_all (jobs table) f.few) l)
+      ∙ ap the_job (rw keys (job_at_same (values (take n finishes)) (fault_free table) (jobs table) (λ i m. get_or-take n finishes i 0 (omega (arith, all)) ∙ f.holds.each i m) p))
 
   pub turn_at : (p : ℕ) → p < length (take n order) → Turn table finishes p (get_or (take n order) p (the_job 0))
   turn_at p l =
       let below : p < jobs table = omega (arith, turns) in
-      let here : get_or (take n order) p (the_job 0) ≡ the_job (job_at_place table p) =
-      get_or-take n order p (the_job 0) (omega (arith, all))
-      ∙ ap (λ jobs. get_or jobs p (the_job 0)) o
-      ∙ get_or-filled the_job (held table) (job_at_place table) (the_job 0) p (rw (held_all table f.few) below) in
+      let here : get_or (take n order) p (the_job 0) ≡ the_job (job_at_place table p) = get_or-take n order p (the_job 0) (omega (arith, all)) ∙ order_is_places p below in
       let job_below : (get_or (take n order) p (the_job 0)).0 < jobs table = rw here ((places table).at_below p below) in
       record { good = good table none; below = below; here = here; job_below = job_below; ends = f.holds.each _ job_below }
 

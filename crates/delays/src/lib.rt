@@ -7,7 +7,6 @@
 
 #![tactic(auto)]
 
-mod finishing;
 mod row;
 
 ghost use Rattle.std.specs.Prelude.{◌≡◌, ◌≤◌, length};
@@ -18,9 +17,8 @@ ghost use Rattle.frame.specs.Delays.{delay};
 ghost use Rattle.schedule.specs.Asks.{too_late, fill};
 ghost use Rattle.delays.specs.Ask.{Delayed};
 
-use crate::finishing::by_finish;
 use crate::row::next_row;
-use jobs::{Faults, Reason, Refusal, Table, given, recovery};
+use jobs::{Faults, Reason, Refusal, Table, given, in_order, recovery};
 use schedule::{fault_free, free_slots};
 
 // The free slots between two times that are not too late to be asked of.
@@ -37,11 +35,12 @@ fn fill_delays(table: &Table, faults: Faults, delays: &mut [u32])
     ensures { delays.new ≡ fill (jobs table.now) (delay table.now faults.k) delays.old }
 {
     let words = table.words();
+    let n = table.jobs();
     let finishes = fault_free(words);
-    let order = by_finish(table, &finishes);
+    let order = in_order(&finishes[..n]);
     let mut row = [0; 9];
     let mut last = 0;
-    for &job in &order[..table.jobs()] {
+    for &job in &order[..n] {
         let end = finishes[job.0];
         let free = free_between(table, last, end);
         row = next_row(row, free, recovery(words, job));

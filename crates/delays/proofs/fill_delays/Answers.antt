@@ -4,15 +4,11 @@
 use native.Mathlib.Omega.{arith}
 use lib.ListN.{get_or, take}
 use Rattle.jobs.specs.Orders.{the_job}
-use Rattle.delays.proofs.Asked.{fault_free_finishes_lem}
 use Rattle.delays.proofs.Walk.{Turn, turn_at, turns, walked_none, next_in_time, next_fits, walked_more, walked_done}
 use Rattle.delays.proofs.fill_delays.Goals as goal
 use Rattle.delays.proofs.fill_delays.Goals.{In-loop-job}
 
 -- ---- before the first turn
-
-pub by_finish-order-requires : goal.by_finish-order-requires
-by_finish-order-requires c = fault_free_finishes_lem _ _ c.words-words.ensures.good (rw c.words-words.ensures.all at c.fault_free-finishes.ensures)
 
 pub loop-job-init : goal.loop-job-init
 loop-job-init c = let a = c.args in walked_none a.table.now a.faults.k a.delays.now
@@ -21,9 +17,9 @@ loop-job-init c = let a = c.args in walked_none a.table.now a.faults.k a.delays.
 
 turn : (c : In-loop-job)
     → Turn c.args.table.now c.fault_free-finishes.result c.loop-job.job-index
-    (get_or (take c.jobs.result c.by_finish-order.result) c.loop-job.job-index (the_job 0))
+    (get_or (take c.jobs-n.result c.in_order-order.result) c.loop-job.job-index (the_job 0))
 turn c =
-    turn_at _ _ _ _ c.words-words.ensures.good (rw c.words-words.ensures.all at c.fault_free-finishes.ensures) c.by_finish-order.ensures c.jobs.ensures.count c.loop-job.job-index c.loop-job-test.true
+    turn_at _ _ _ _ c.words-words.ensures.good (rw c.words-words.ensures.all at c.fault_free-finishes.ensures) c.in_order-order.ensures c.jobs-n.ensures.count c.loop-job.job-index c.loop-job-test.true
 
 pub bounds-finishes-job : goal.bounds-finishes-job
 bounds-finishes-job c = let t = turn (goal.at.bounds-finishes-job c).In-loop-job in omega (arith, t.job_below, t.good.few_jobs)
@@ -53,4 +49,4 @@ loop-job-preserved c =
 pub returns : goal.returns
 returns c =
     let finishes = rw c.words-words.ensures.all at c.fault_free-finishes.ensures in
-    walked_done c.loop-job.invariant c.requires (omega (arith, turns _ _ _ _ c.words-words.ensures.good finishes c.by_finish-order.ensures c.jobs.ensures.count))
+    walked_done c.loop-job.invariant c.requires (omega (arith, turns _ _ _ _ c.words-words.ensures.good finishes c.in_order-order.ensures c.jobs-n.ensures.count))
