@@ -8,12 +8,13 @@ use lib.ListN.{length, take, replicate}
 use lib.Dec.{ltb, lit≤}
 use borrow.Author.Tests.{ltb-false, le-ltb, lt-ltb}
 use Rattle.jobs.specs.Table.{row_words}
-use Rattle.jobs.specs.Refusals.{first, table_refusals}
-use Rattle.jobs.specs.declared.Check.TheVariants.{Fine}
-use Rattle.jobs.proofs.Refusals.{good, not-given}
-use Rattle.jobfile.specs.Meaning.{meaning, ReadsTo}
+use Rattle.jobs.specs.Refusals.{fine, first, table_refusals}
+use Rattle.jobs.specs.declared.refusal.Refusal.{Refusal}
+use Rattle.jobs.specs.declared.refusal.Reason.TheVariants.{TooManyFaults}
+use Rattle.std.specs.Prelude.{Result, Err}
+use Rattle.jobs.proofs.Refusals.{not-given}
+use Rattle.jobfile.specs.Meaning.{meaning, contents, ReadsTo}
 use Rattle.jobfile.specs.declared.Contents.{Contents}
-use Rattle.jobfile.specs.declared.Contents.TheVariants.{Jobs, Refused}
 use Rattle.jobfile_laws.proofs.Promises.{RowsRead, rows_read, refusal_read}
 use Rattle.text.specs.Text.{refusal, too_long, most_bytes}
 use Rattle.text.specs.Growing.{Begins, Puts}
@@ -32,21 +33,18 @@ module _ (file : List ℕ) where
   pub reports_too_long : {t u : Text} → most_bytes < length file → Puts too_long t u → Writes (Allowed file) t u
   reports_too_long l put = record { piece = too_long; is = rw (lt-ltb most_bytes (length file) l); put = put }
 
-  module _ (short : length file ≤ most_bytes) (contents : Contents) (table : List ℕ) (read : ReadsTo file (replicate 256 0) contents table) where
-    pub reports_refused : (number place : ℕ) → contents ≡ Refused number place → {t u : Text} → Puts (refusal number place) t u → Writes (Allowed file) t u
-    reports_refused number place e put =
-        let means = refusal_read file (replicate 256 0) number place table (lit≤ tt) (rw e at read) in
-        record { piece = refusal number place; is = rw (le-ltb most_bytes (length file) short, means); put = put }
+  module _ (short : length file ≤ most_bytes) (answer : Result Contents Refusal) (table : List ℕ) (read : ReadsTo file (replicate 256 0) answer table) where
+    pub reports_refused : (r : Refusal) → answer ≡ Err r → {t u : Text} → Puts (refusal r) t u → Writes (Allowed file) t u
+    reports_refused r e put =
+        let means = refusal_read file (replicate 256 0) r table (lit≤ tt) (rw e at read) in
+        record { piece = refusal r; is = rw (le-ltb most_bytes (length file) short, means); put = put }
 
-    module _ (n k : ℕ) (e : contents ≡ Jobs n k) where
+    module _ (n k : ℕ) (e : answer ≡ contents n k) where
       rows : RowsRead file n k table
       rows = rows_read file (replicate 256 0) n k table (rw e at read)
 
-      pub few_jobs : n ≤ 64
-      few_jobs = omega (arith, rows.count, (good (take (n * row_words) table) rows.fine).few_jobs)
-
-      pub good_table : (first (table_refusals (take (n * row_words) table)) ≡ Fine) × (k < 9)
-      good_table = let faults : k ≤ 8 = ltb-false 8 k (not-given _ 4 0 rows.few) in (rows.fine, omega arith)
+      pub good_table : (first (table_refusals (take (n * row_words) table)) ≡ fine) × (k < 9)
+      good_table = let faults : k ≤ 8 = ltb-false 8 k (not-given _ TooManyFaults 0 rows.few) in (rows.not_refused, omega arith)
 
       pub reports_judged : {t u : Text} → Writes (Judges (take (n * row_words) table) k) t u → Writes (Allowed file) t u
       reports_judged w = record { piece = w.piece; is = rw (le-ltb most_bytes (length file) short, rows.means) w.is; put = w.put }

@@ -46,7 +46,7 @@ pub record Judges (table : List ℕ) (k : ℕ) (text : List ℕ) : Type 0 where
 -- The texts that report on an input: too long, or what the file means.
 abbrev pub Says : Bool → Meaning → List ℕ → Type 0
 Says true m text = text ≡ too_long
-Says false (refused number place) text = text ≡ refusal number place
+Says false (refused r) text = text ≡ refusal r
 Says false (holds table k) text = Judges table k text
 
 -- Report: the text in the lent buffer, and how many bytes of it are there.

@@ -5,8 +5,8 @@
 ghost use Rattle.std.specs.Prelude.{◌≡◌, ◌*◌, ◌≤◌, ◌<◌, length, get_or, take, ltb};
 ghost use Rattle.std.proofs.Math.IntN.{sub_ℕ};
 ghost use Rattle.jobs.specs.Table.{row_words, jobs, deadline};
-ghost use Rattle.jobs.specs.Refusals.{first, table_refusals};
-ghost use Rattle.jobs.specs.declared.Check.TheVariants.{Fine};
+ghost use Rattle.jobs.specs.Arrays.{values};
+ghost use Rattle.jobs.specs.Refusals.{fine, first, table_refusals};
 ghost use Rattle.jobfile.specs.Meaning.{meaning};
 ghost use Rattle.text.specs.Text.{labelled, each, most_bytes};
 ghost use Rattle.text.specs.Growing.{Puts};
@@ -16,7 +16,6 @@ ghost use Rattle.report_text.specs.Writing.{Writes};
 use frame::Verdict;
 use jobfile::Contents;
 use jobs::Job;
-use judge::Judged;
 use text::{MOST_BYTES, Text};
 
 // No report is longer.
@@ -58,8 +57,8 @@ impl Reported<'_> {
     // A job's line: its number, fault-free finish, latest finish, margin.
     fn put_job_line(&self, text: &mut Text<'_>, job: Job)
         requires { job.0 < jobs self.now.table.now }
-        ensures { Puts (job_line job.0 (get_or self.now.early.now job.0 0) (get_or self.now.late.now job.0 0)
-            (sub_ℕ (deadline self.now.table.now job.0) (get_or self.now.late.now job.0 0))) text.old text.new }
+        ensures { Puts (job_line job.0 (values self.now.early.now job.0) (values self.now.late.now job.0)
+            (sub_ℕ (deadline self.now.table.now job.0) (values self.now.late.now job.0))) text.old text.new }
     {
         let early = self.early[job.0];
         let late = self.late[job.0];
@@ -73,7 +72,7 @@ impl Reported<'_> {
 
     // The lines of the jobs.
     fn put_job_lines(&self, text: &mut Text<'_>)
-        ensures { Puts (job_lines self.now.table.now (λ i. get_or self.now.early.now i 0) (λ i. get_or self.now.late.now i 0) (jobs self.now.table.now)) text.old text.new }
+        ensures { Puts (job_lines self.now.table.now (values self.now.early.now) (values self.now.late.now) (jobs self.now.table.now)) text.old text.new }
     {
         for i in 0..jobs::jobs(self.table) {
             self.put_job_line(text, Job(i));
@@ -82,7 +81,7 @@ impl Reported<'_> {
 
     // The counts of the pattern in job order.
     fn put_counts(&self, text: &mut Text<'_>)
-        ensures { Puts (each (jobs self.now.table.now) (λ i. labelled " " (get_or self.now.pattern.now i 0))) text.old text.new }
+        ensures { Puts (each (jobs self.now.table.now) (λ i. labelled " " (values self.now.pattern.now i))) text.old text.new }
     {
         for &count in &self.pattern[..jobs::jobs(self.table)] {
             text.put_labelled(b" ", u64::from(count));
@@ -102,7 +101,7 @@ impl Reported<'_> {
 
     // The lines of a report.
     fn put_lines(&self, text: &mut Text<'_>)
-        ensures { Puts (lines self.now.table.now self.now.k self.now.verdict (λ i. get_or self.now.early.now i 0) (λ i. get_or self.now.late.now i 0) self.now.pattern.now) text.old text.new }
+        ensures { Puts (lines self.now.table.now self.now.k self.now.verdict (values self.now.early.now) (values self.now.late.now) self.now.pattern.now) text.old text.new }
     {
         self.put_first_line(text);
         self.put_job_lines(text);
@@ -112,27 +111,22 @@ impl Reported<'_> {
 
 // The report on a good table. The judge never refuses it.
 fn put_judged(text: &mut Text<'_>, table: &[u32], k: u32)
-    requires { (first (table_refusals table.now) ≡ Fine) × (k < 9) }
+    requires { (first (table_refusals table.now) ≡ fine) × (k < 9) }
     ensures { Writes (Judges table.now k) text.old text.new }
 {
     let early = schedule::fault_free(table);
     let mut late = [0; 64];
     let mut pattern = [0; 64];
-    let answer = judge::judge(table, k, &mut late, &mut pattern);
-    match answer {
-        Judged::With(verdict) => Reported {
+    if let Ok(verdict) = judge::judge(table, k, &mut late, &mut pattern) {
+        let reported = Reported {
             table,
             k,
             verdict,
             early: &early,
             late: &late,
             pattern: &pattern,
-        }
-        .put_lines(text),
-        Judged::Refused {
-            number: _,
-            place: _,
-        } => {}
+        };
+        reported.put_lines(text);
     }
 }
 
@@ -143,13 +137,10 @@ fn put_report(text: &mut Text<'_>, file: &[u8])
     if MOST_BYTES < file.len() {
         return text.put_too_long();
     }
-    let mut table = [0u32; 256];
+    let mut table = [0; 256];
     match jobfile::read(file, &mut table) {
-        Contents::Refused { number, place } => text.put_refusal(number, place),
-        Contents::Jobs { n, k } => {
-            let words = n * jobs::ROW;
-            put_judged(text, &table[..words], k)
-        }
+        Err(refusal) => text.put_refusal(refusal),
+        Ok(Contents { n, k }) => put_judged(text, &table[..n * jobs::ROW], k),
     }
 }
 

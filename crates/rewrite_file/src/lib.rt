@@ -8,7 +8,6 @@ ghost use Rattle.text.specs.Growing.{Puts};
 ghost use Rattle.jobfile.specs.Meaning.{headed, Good};
 ghost use Rattle.rewrite_file.specs.Rewriting.{with_head, rewritten};
 
-use jobfile::Contents;
 use text::{MOST_BYTES, Text};
 
 // No rewritten file, and no line in its place, is longer.
@@ -40,10 +39,10 @@ fn put_rewritten(text: &mut Text<'_>, file: &[u8])
     if MOST_BYTES < file.len() {
         return text.put_too_long();
     }
-    let mut table = [0u32; 256];
+    let mut table = [0; 256];
     match jobfile::read(file, &mut table) {
-        Contents::Refused { number, place } => text.put_refusal(number, place),
-        Contents::Jobs { n: _, k: _ } => put_with_head(text, file),
+        Err(refusal) => text.put_refusal(refusal),
+        Ok(_) => put_with_head(text, file),
     }
 }
 

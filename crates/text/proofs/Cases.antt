@@ -4,6 +4,8 @@ use lib.Chars.{codes}
 use mathlib.Core.Path.{◌≡◌, refl}
 use lib.IntN.{sub_ℕ}
 use Rattle.jobs.specs.Below.{least}
+use Rattle.jobs.specs.Refusals.{refused}
+use Rattle.jobs.specs.declared.refusal.Reason.TheVariants.{CutRecord}
 use Rattle.text.specs.Text.{places, decimal, signed, refusal, laid}
 
 -- what computes in the cases
@@ -12,7 +14,7 @@ unfolding least places decimal laid
 worked = 0
 
 -- 01's refusal: case 14 without its last byte.
-pub case_14 : refusal 20 5 ≡ codes "refused 20 at 5\n"
+pub case_14 : refusal (refused CutRecord 5) ≡ codes "refused 20 at 5\n"
 unfolding worked
 case_14 = refl
 

@@ -12,6 +12,8 @@ use lib.Dec.{ltb, lit<}
 use borrow.Author.Tests.{ltb-true, ltb-false}
 use Rattle.io.specs.Digits.{hex_digit_ascii, last_digits}
 use Rattle.jobs.specs.Below.{least}
+use Rattle.jobs.specs.Refusals.{number}
+use Rattle.jobs.specs.declared.refusal.Refusal.{Refusal}
 use Rattle.jobs.proofs.Below.{by_cases, before_least}
 use Rattle.text.specs.Text.{places, decimal, labelled, each, refusal}
 
@@ -52,8 +54,8 @@ pub label_short : (text : String) (n d : ℕ) → d < 20 → n < 10 ^ suc d → 
 label_short text n d l h = then (word text) (number_short n d l h)
 
 -- a number of two digits and a place of five
-pub refusal_short : (number place : ℕ) → number < 100 → place < 100000 → Short (refusal number place) 20
-refusal_short number place l h =
-    let a = label_short "refused " number 1 (lit< tt) l in
-    let b = label_short " at " place 4 (lit< tt) h in
+pub refusal_short : (r : Refusal) → number r.reason < 100 → r.place < 100000 → Short (refusal r) 20
+refusal_short r l h =
+    let a = label_short "refused " (number r.reason) 1 (lit< tt) l in
+    let b = label_short " at " r.place 4 (lit< tt) h in
     then (then a b) (word "\n")

@@ -3,6 +3,8 @@ use Rattle.std.specs.Prelude.{ℕ, zero, suc, ◌+◌, ◌-◌, ◌^◌, min, �
 use Prim.Native.String.{String}
 use Rattle.io.specs.Digits.{last_digits}
 use Rattle.jobs.specs.Below.{least}
+use Rattle.jobs.specs.Refusals.{number}
+use Rattle.jobs.specs.declared.refusal.Refusal.{Refusal}
 
 -- How many decimal digits a number has, if they are at most 21.
 unfoldable pub places : ℕ → ℕ
@@ -26,9 +28,9 @@ unfoldable pub each : ℕ → (ℕ → List ℕ) → List ℕ
 each zero piece = []
 each (suc n) piece = each n piece ++ piece n
 
--- A refusal in one line: its number and its place.
-abbrev pub refusal : ℕ → ℕ → List ℕ
-refusal number place = labelled "refused " number ++ labelled " at " place ++ codes "\n"
+-- A refusal in one line: its reason's number and its place.
+abbrev pub refusal : Refusal → List ℕ
+refusal r = labelled "refused " (number r.reason) ++ labelled " at " r.place ++ codes "\n"
 
 -- The most bytes that an input may have.
 abbrev pub most_bytes : ℕ

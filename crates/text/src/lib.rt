@@ -3,7 +3,9 @@
 #![tactic(auto)]
 
 ghost use Rattle.std.specs.Prelude.{◌≡◌, ◌≤◌, ◌++◌, length};
-ghost use Rattle.text.specs.Text.{decimal, signed, refusal, too_long};
+ghost use Rattle.text.specs.Text.{decimal, signed, refusal as line_of, too_long};
+
+use jobs::Refusal;
 
 // The most bytes that an input may have.
 pub const MOST_BYTES: usize = 32_768;
@@ -72,11 +74,12 @@ impl<'a> Text<'a> {
     }
 
     // The line of a refusal.
-    pub fn put_refusal(&mut self, number: u32, place: usize)
-        ensures { Puts (refusal number place) self.old self.new }
+    pub fn put_refusal(&mut self, refusal: Refusal)
+        ensures { Puts (line_of refusal) self.old self.new }
     {
+        let number = u32::from(refusal.reason);
         self.put_labelled(b"refused ", u64::from(number));
-        self.put_labelled(b" at ", place as u64);
+        self.put_labelled(b" at ", refusal.place as u64);
         self.put(b"\n");
     }
 

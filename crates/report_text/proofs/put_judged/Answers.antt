@@ -3,6 +3,6 @@ use mathlib.Core.Path.{refl}
 use Rattle.report_text.proofs.Judged.{judged_writes}
 use Rattle.report_text.proofs.put_judged.Goals as goal
 
-pub returns-in-With : goal.returns-in-With
-returns-in-With c =
-    judged_writes c.args.table.now c.args.k c.requires.0 c.requires.1 _ _ _ c.in-With.ensures _ refl _ c.fault_free-early.ensures c.put_lines.ensures
+pub returns-in-Ok : goal.returns-in-Ok
+returns-in-Ok c =
+    judged_writes c.args.table.now c.args.k c.requires.0 c.requires.1 _ _ _ c.in-Ok.ensures _ refl _ c.fault_free-early.ensures c.put_lines.ensures

@@ -8,10 +8,10 @@ pub returns-then-file-gt-MOST_BYTES : goal.returns-then-file-gt-MOST_BYTES
 returns-then-file-gt-MOST_BYTES c = reports_too_long c.args.file.now (omega arith) c.put_too_long.ensures
 
 pub put_judged-requires : goal.put_judged-requires
-put_judged-requires c = good_table c.args.file.now (omega arith) _ _ c.in-Jobs.ensures _ _ refl
+put_judged-requires c = good_table c.args.file.now (omega arith) _ _ c.in-Ok.ensures _ _ refl
 
-pub returns-in-Refused : goal.returns-in-Refused
-returns-in-Refused c = reports_refused c.args.file.now (omega arith) _ _ c.in-Refused.ensures _ _ refl c.put_refusal.ensures
+pub returns-in-Err : goal.returns-in-Err
+returns-in-Err c = reports_refused c.args.file.now (omega arith) _ _ c.in-Err.ensures _ refl c.put_refusal.ensures
 
-pub returns-in-Jobs : goal.returns-in-Jobs
-returns-in-Jobs c = reports_judged c.args.file.now (omega arith) _ _ c.in-Jobs.ensures _ _ refl c.put_judged.ensures
+pub returns-in-Ok : goal.returns-in-Ok
+returns-in-Ok c = reports_judged c.args.file.now (omega arith) _ _ c.in-Ok.ensures _ _ refl c.put_judged.ensures

@@ -11,15 +11,15 @@ returns-then-file-gt-MOST_BYTES c =
 
 pub put_with_head-requires : goal.put_with_head-requires
 put_with_head-requires c =
-    read_good c.args.file.now _ _ c.in-Jobs.ensures _ _ refl
+    read_good c.args.file.now _ _ c.in-Ok.ensures _ _ refl
 
-pub returns-in-Refused : goal.returns-in-Refused
-returns-in-Refused c =
+pub returns-in-Err : goal.returns-in-Err
+returns-in-Err c =
     let file = c.args.file.now in
-    puts_same (rewritten_refused file _ _ (omega arith) (read_refused file _ _ c.in-Refused.ensures _ _ refl)) c.put_refusal.ensures
+    puts_same (rewritten_refused file _ (omega arith) (read_refused file _ _ c.in-Err.ensures _ refl)) c.put_refusal.ensures
 
-pub returns-in-Jobs : goal.returns-in-Jobs
-returns-in-Jobs c =
+pub returns-in-Ok : goal.returns-in-Ok
+returns-in-Ok c =
     let file = c.args.file.now in
-    let good = read_good file _ _ c.in-Jobs.ensures _ _ refl in
+    let good = read_good file _ _ c.in-Ok.ensures _ _ refl in
     puts_same (rewritten_good file good.table good.k (omega arith) good.means) c.put_with_head.ensures
