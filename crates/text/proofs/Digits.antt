@@ -10,6 +10,9 @@ use mathlib.Core.Path.{◌≡◌, sym, ap}
 use lib.Dec.{ltb, lit<}
 use lib.IntN.{ℤ, pos, negsuc, nat_abs, sub_ℕ}
 use lib.Signed.{lt_z}
+use mir.Syntax.{w64}
+use mir.Val.{SFits, to_z, of_z}
+use mir.Facts.{to_z-of_z}
 use mathlib.Core.Bool.{true, false, true≢false}
 use borrow.Author.Tests.{ltb-true, ltb-false, lt-ltb, le-ltb}
 use Rattle.io.specs.Digits.{last_digits, IsDigitCount}
@@ -38,13 +41,21 @@ digits_are_decimal n (suc c) small fewest = ap (λ d. last_digits 10 d n) (fewes
 
 -- ---- signed numbers
 
-pub signed_negative : (z : ℤ) (n : ℕ) → lt_z z (pos 0) ≡ true → n ≡ nat_abs z → labelled "-" n ≡ signed z
-signed_negative (pos m) n t e = absurd (omega (arith, ltb-true m 0 t))
-signed_negative (negsuc m) n t e = ap (λ d. labelled "-" d) e
+negative : (z : ℤ) (n : ℕ) → lt_z z (pos 0) ≡ true → n ≡ nat_abs z → labelled "-" n ≡ signed z
+negative (pos m) n t e = absurd (omega (arith, ltb-true m 0 t))
+negative (negsuc m) n t e = ap (λ d. labelled "-" d) e
 
-pub signed_natural : (z : ℤ) (n : ℕ) → lt_z z (pos 0) ≡ false → n ≡ nat_abs z → decimal n ≡ signed z
-signed_natural (pos m) n t e = ap decimal e
-signed_natural (negsuc m) n t e = absurd (true≢false t)
+natural : (z : ℤ) (n : ℕ) → lt_z z (pos 0) ≡ false → n ≡ nat_abs z → decimal n ≡ signed z
+natural (pos m) n t e = ap decimal e
+natural (negsuc m) n t e = absurd (true≢false t)
+
+-- a number of 64 bits, by the test and the distance from zero that the code has of it
+module _ (z : ℤ) (fits : SFits w64 z) (far : ℕ) (is : far ≡ nat_abs (to_z w64 (of_z w64 z))) where
+  pub signed_negative : lt_z (to_z w64 (of_z w64 z)) (pos 0) ≡ true → labelled "-" far ≡ signed z
+  signed_negative t = let same = to_z-of_z fits in negative z far (rw same at t) (rw same at is)
+
+  pub signed_natural : lt_z (to_z w64 (of_z w64 z)) (pos 0) ≡ false → decimal far ≡ signed z
+  signed_natural t = let same = to_z-of_z fits in natural z far (rw same at t) (rw same at is)
 
 pub signed_above : (number less : ℕ) → less ≤ number → signed (sub_ℕ number less) ≡ decimal (number - less)
 signed_above number less l = rw (le-ltb number less l)
