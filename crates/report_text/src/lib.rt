@@ -33,24 +33,24 @@ struct Reported<'a> {
     ghost few_jobs: { jobs table.now ≤ 64 },
 }
 
-// The verdict and the named job, in the first line.
-fn put_verdict(text: &mut Text<'_>, verdict: Verdict)
-    ensures { Puts (verdict_text verdict) text.old text.new }
-{
-    match verdict {
-        Verdict::Sound => text.put(b" sound"),
-        Verdict::Miss(job, _) => text.put_labelled(b" miss ", job.0 as u64),
-    }
-}
-
 impl Reported<'_> {
+    // The verdict and the named job, in the first line.
+    fn put_verdict(&self, text: &mut Text<'_>)
+        ensures { Puts (verdict_text self.now.verdict) text.old text.new }
+    {
+        match self.verdict {
+            Verdict::Sound => text.put(b" sound"),
+            Verdict::Miss(job, _) => text.put_labelled(b" miss ", job.0 as u64),
+        }
+    }
+
     // First line: k, number of jobs, verdict.
     fn put_first_line(&self, text: &mut Text<'_>)
         ensures { Puts (first_line self.now.k (jobs self.now.table.now) self.now.verdict) text.old text.new }
     {
         text.put_labelled(b"k ", u64::from(self.k));
         text.put_labelled(b" jobs ", jobs::jobs(self.table) as u64);
-        put_verdict(text, self.verdict);
+        self.put_verdict(text);
         text.put(b"\n");
     }
 
