@@ -8,12 +8,12 @@ use mathlib.Core.List.{List, [], ◌++◌, append-nil}
 use lib.ListN.{length, drop, length-append}
 use borrow.Author.Tests.{le-ltb}
 use borrow.Rule.Slice.PartMut.{mid_of, put_mid}
+use Rattle.std.specs.Prelude.{Ok, Err}
 use Rattle.jobs.specs.Table.{row_words}
 use Rattle.jobs.proofs.Below.{by_cases}
 use Rattle.jobfile.specs.Bytes.{over}
-use Rattle.jobfile.specs.Meaning.{row_of, record_at, Meaning, holds, refused, with_row, walk, is_head, headed, headless_k, meaning, filled, Good}
-use Rattle.jobfile.specs.declared.Record.{Record}
-use Rattle.jobfile.specs.declared.Record.TheVariants.{Head, Job, Bad}
+use Rattle.jobfile.specs.Meaning.{row_of, Answer, record_at, Meaning, holds, refused, with_row, walk, is_head, headed, headless_k, meaning, filled, Good}
+use Rattle.jobfile.specs.declared.Record.TheVariants.{Head, Job}
 use Rattle.jobfile.proofs.Bytes.{row-length}
 use Rattle.jobfile.proofs.Over.{over-length, over_lent}
 use Rattle.jobfile.proofs.Records.{IsHead, as_head, head_answers}
@@ -29,10 +29,10 @@ pub record Filling (file table₀ table : List ℕ) (at words : ℕ) : Type 0 wh
   pub long : length rows ≡ words
   pub laid : table ≡ over rows table₀
 
-pub headed_is : (r : Record) → is_head r ≡ true → (k : ℕ) × (r ≡ Head k)
-headed_is (Head k) e = (k, refl)
-headed_is Job e = absurd (true≢false (sym e))
-headed_is (Bad number place) e = absurd (true≢false (sym e))
+pub headed_is : (r : Answer) → is_head r ≡ true → (k : ℕ) × (r ≡ Ok (Head k))
+headed_is (Ok (Head k)) e = (k, refl)
+headed_is (Ok Job) e = absurd (true≢false (sym e))
+headed_is (Err refusal) e = absurd (true≢false (sym e))
 
 pub filling_none : (file table : List ℕ) (at : ℕ) → at ≡ cond (headed file) 5 0 → Filling file table table at 0
 filling_none file table at e =
@@ -65,7 +65,7 @@ with_row_fits : (rows : List ℕ) (m : Meaning) (table : List ℕ) (k : ℕ) →
 with_row_fits rows (holds t k') table k e =
     let same : rows ++ t ≡ table = cc in
     omega (arith, length-append rows t, ap length same)
-with_row_fits rows (refused number place) table k e = let z : ◌≡◌ {A = ℕ} 0 1 = cc in absurd (omega arith)
+with_row_fits rows (refused refusal) table k e = let z : ◌≡◌ {A = ℕ} 0 1 = cc in absurd (omega arith)
 
 passed_fits : (file : List ℕ) (at n k : ℕ) (rows : List ℕ) (room : ℕ) → Passed file at n k rows → Good file room → length rows ≤ room
 passed_fits file at n k rows room p good =
@@ -78,7 +78,7 @@ module _ (file table₀ table : List ℕ) (at words : ℕ) (good : Good file (le
   pub filling_length : length table ≡ length table₀
   filling_length = ap length f.laid ∙ over-length f.rows table₀ filling_fits
 
-  pub next_is_job : at < length file → record_at (drop at file) at f.n ≡ Job
+  pub next_is_job : at < length file → record_at (drop at file) at f.n ≡ Ok Job
   next_is_job h =
       by-record (record_at (drop at file) at f.n)
       (λ k e.
@@ -86,8 +86,8 @@ module _ (file table₀ table : List ℕ) (at words : ℕ) (good : Good file (le
       let first = subst (λ (a : ℕ). IsHead (drop a file) a k) i.first i in
       absurd (true≢false (ap is_head (sym (head_answers file 0 0 k first)) ∙ f.no_head i.first)))
       (λ e. e)
-      (λ number place e.
-      let bad = passed_bad file at f.n f.k f.rows f.passed number place h e in
+      (λ refusal e.
+      let bad = passed_bad file at f.n f.k f.rows f.passed refusal h e in
       let means = good.means in
       let z : ◌≡◌ {A = ℕ} 0 1 = cc in
       absurd (omega arith))

@@ -2,27 +2,37 @@
 -- Forwards each law rewrites the definition by the tests; backwards a test that does not refuse is false. Assumes nothing.
 use Prim.Native.Nat.{ℕ, ◌+◌, ◌≤◌, ◌<◌}
 use native.Mathlib.Omega.{arith}
-use mathlib.Core.Path.{◌≡◌, refl, ap, ◌∙◌}
+use mathlib.Core.Path.{◌≡◌, refl, sym, ap, ◌∙◌}
 use mathlib.Core.Bool.{Bool, true, false, not}
 use mathlib.Core.List.{List}
 use lib.ListN.{length}
 use lib.Dec.{ltb, leb, eqb}
 use borrow.Author.Tests.{eq-eqb, ne_eqb, eqb-true, not-false, lt-ltb, le-ltb, ltb-false, lt-leb, leb-false}
+use Rattle.std.specs.Prelude.{Ok, Err}
+use Rattle.jobs.specs.Refusals.{given, refused}
+use Rattle.jobs.specs.declared.refusal.Reason.{Reason}
+use Rattle.jobs.specs.declared.refusal.Reason.TheVariants.{CutRecord, WrongLength, UnknownKind}
+use Rattle.jobs.specs.declared.refusal.Refusal.{Refusal}
 use Rattle.jobs.proofs.Below.{by_cases}
-use Rattle.jobfile.specs.Meaning.{length_of, kind_of, faults_of, row_of, strays, refuse, head_at, job_at, by_kind, record_at}
-use Rattle.jobfile.specs.declared.Record.{Record}
-use Rattle.jobfile.specs.declared.Record.TheVariants.{Head, Job, Bad}
+use Rattle.jobs.proofs.Refusals.{refused_not_fine}
+use Rattle.jobfile.specs.Meaning.{length_of, kind_of, faults_of, row_of, strays, Answer, bad, refuse, head_at, job_at, by_kind, record_at}
+use Rattle.jobfile.specs.declared.Record.TheVariants.{Head, Job}
+
+-- a refusal that was given: its test holds, and what it is
+pub is_given : (test : Bool) (reason : Reason) (place : ℕ) {refusal : Refusal} → given test reason place ≡ Err refusal → (test ≡ true) × (refusal ≡ refused reason place)
+is_given true reason place e = (refl, cc)
+is_given false reason place e = absurd (refused_not_fine (sym e))
 
 module _ (left : List ℕ) (at n : ℕ) where
-  pub too_few_bytes : length left < 2 → record_at left at n ≡ Bad 20 at
+  pub too_few_bytes : length left < 2 → record_at left at n ≡ bad CutRecord at
   unfolding record_at
   too_few_bytes h = rw (lt-ltb _ _ h)
 
-  pub length_below_two : 2 ≤ length left → length_of left < 2 → record_at left at n ≡ Bad 21 at
+  pub length_below_two : 2 ≤ length left → length_of left < 2 → record_at left at n ≡ bad WrongLength at
   unfolding record_at
   length_below_two h l = rw (le-ltb _ _ h, lt-ltb _ _ l)
 
-  pub cut_off : 2 ≤ length left → 2 ≤ length_of left → length left < 2 + length_of left → record_at left at n ≡ Bad 20 at
+  pub cut_off : 2 ≤ length left → 2 ≤ length_of left → length left < 2 + length_of left → record_at left at n ≡ bad CutRecord at
   unfolding record_at
   cut_off h l m = rw (le-ltb _ _ h, le-ltb _ _ l, lt-ltb _ _ m)
 
@@ -38,20 +48,20 @@ module _ (left : List ℕ) (at n : ℕ) where
   unfolding by_kind
   kind_two e = rw e
 
-  pub kind_other : (kind_of left ≡ 1 → ⊥) → (kind_of left ≡ 2 → ⊥) → by_kind (kind_of left) left at n ≡ Bad 22 at
+  pub kind_other : (kind_of left ≡ 1 → ⊥) → (kind_of left ≡ 2 → ⊥) → by_kind (kind_of left) left at n ≡ bad UnknownKind at
   unfolding by_kind
   kind_other p q = rw (ne_eqb _ _ p, ne_eqb _ _ q)
 
 -- ---- backwards
 
 -- a test that did not refuse is false, and what comes after it is the answer
-good_head : (b : Bool) (number at k : ℕ) (next : Record) → refuse b number at next ≡ Head k → (b ≡ false) × (next ≡ Head k)
-good_head true number at k next e = let z : ◌≡◌ {A = ℕ} 0 1 = cc in absurd (omega arith)
-good_head false number at k next e = (refl, e)
+good_head : (b : Bool) (reason : Reason) (at k : ℕ) (next : Answer) → refuse b reason at next ≡ Ok (Head k) → (b ≡ false) × (next ≡ Ok (Head k))
+good_head true reason at k next e = let z : ◌≡◌ {A = ℕ} 0 1 = cc in absurd (omega arith)
+good_head false reason at k next e = (refl, e)
 
-good_job : (b : Bool) (number at : ℕ) (next : Record) → refuse b number at next ≡ Job → (b ≡ false) × (next ≡ Job)
-good_job true number at next e = let z : ◌≡◌ {A = ℕ} 0 1 = cc in absurd (omega arith)
-good_job false number at next e = (refl, e)
+good_job : (b : Bool) (reason : Reason) (at : ℕ) (next : Answer) → refuse b reason at next ≡ Ok Job → (b ≡ false) × (next ≡ Ok Job)
+good_job true reason at next e = let z : ◌≡◌ {A = ℕ} 0 1 = cc in absurd (omega arith)
+good_job false reason at next e = (refl, e)
 
 -- a head: its length, its kind, where it stands, and its k
 pub record IsHead (left : List ℕ) (at k : ℕ) : Type 0 where
@@ -70,13 +80,13 @@ pub record IsJob (left : List ℕ) (n : ℕ) : Type 0 where
   pub few : n < 64
   pub fits : strays (row_of left) ≡ false
 
-bad_no_head : (number at k : ℕ) → Bad number at ≡ Head k → ⊥
-bad_no_head number at k e = let z : ◌≡◌ {A = ℕ} 0 1 = cc in omega arith
+bad_no_head : (reason : Reason) (at k : ℕ) → bad reason at ≡ Ok (Head k) → ⊥
+bad_no_head reason at k e = let z : ◌≡◌ {A = ℕ} 0 1 = cc in omega arith
 
-bad_no_job : (number at : ℕ) → Bad number at ≡ Job → ⊥
-bad_no_job number at e = let z : ◌≡◌ {A = ℕ} 0 1 = cc in omega arith
+bad_no_job : (reason : Reason) (at : ℕ) → bad reason at ≡ Ok Job → ⊥
+bad_no_job reason at e = let z : ◌≡◌ {A = ℕ} 0 1 = cc in omega arith
 
-job_no_head : (left : List ℕ) (at n k : ℕ) → job_at left at n ≡ Head k → ⊥
+job_no_head : (left : List ℕ) (at n k : ℕ) → job_at left at n ≡ Ok (Head k) → ⊥
 unfolding job_at
 job_no_head left at n k e =
     let long = good_head (not (eqb (length_of left) 18)) _ _ _ _ e in
@@ -84,7 +94,7 @@ job_no_head left at n k e =
     let fits = good_head (strays (row_of left)) _ _ _ _ few.1 in
     let z : ◌≡◌ {A = ℕ} 0 1 = cc in omega arith
 
-head_no_job : (left : List ℕ) (at : ℕ) → head_at left at ≡ Job → ⊥
+head_no_job : (left : List ℕ) (at : ℕ) → head_at left at ≡ Ok Job → ⊥
 unfolding head_at
 head_no_job left at e =
     let long = good_job (not (eqb (length_of left) 3)) _ _ _ e in
@@ -92,7 +102,7 @@ head_no_job left at e =
     let few = good_job (ltb 8 (faults_of left)) _ _ _ first.1 in
     let z : ◌≡◌ {A = ℕ} 0 1 = cc in omega arith
 
-head_is : (left : List ℕ) (at k : ℕ) → 2 ≤ length_of left → 2 + length_of left ≤ length left → kind_of left ≡ 1 → head_at left at ≡ Head k → IsHead left at k
+head_is : (left : List ℕ) (at k : ℕ) → 2 ≤ length_of left → 2 + length_of left ≤ length left → kind_of left ≡ 1 → head_at left at ≡ Ok (Head k) → IsHead left at k
 unfolding head_at
 head_is left at k l m kind e =
     let long = good_head (not (eqb (length_of left) 3)) _ _ _ _ e in
@@ -110,7 +120,7 @@ head_is left at k l m kind e =
       few = omega arith;
     }
 
-job_is : (left : List ℕ) (at n : ℕ) → 2 ≤ length_of left → 2 + length_of left ≤ length left → kind_of left ≡ 2 → job_at left at n ≡ Job → IsJob left n
+job_is : (left : List ℕ) (at n : ℕ) → 2 ≤ length_of left → 2 + length_of left ≤ length left → kind_of left ≡ 2 → job_at left at n ≡ Ok Job → IsJob left n
 unfolding job_at
 job_is left at n l m kind e =
     let long = good_job (not (eqb (length_of left) 18)) _ _ _ e in
@@ -120,7 +130,7 @@ job_is left at n l m kind e =
     record { whole = omega arith; long = eighteen; kind = kind; few = leb-false _ _ few.0; fits = fits.0 }
 
 -- a record that was answered with a head is one
-pub as_head : (left : List ℕ) (at n k : ℕ) → record_at left at n ≡ Head k → IsHead left at k
+pub as_head : (left : List ℕ) (at n k : ℕ) → record_at left at n ≡ Ok (Head k) → IsHead left at k
 unfolding record_at by_kind
 as_head left at n k e =
     let some_bytes = good_head (ltb (length left) 2) _ _ _ _ e in
@@ -132,10 +142,10 @@ as_head left at n k e =
     (λ t. head_is left at k l m (eqb-true _ _ t) (rw t at All-there.1))
     (λ t. by_cases (eqb (kind_of left) 2)
     (λ u. absurd (job_no_head left at n k (rw (t, u) at All-there.1)))
-    (λ u. absurd (bad_no_head 22 at k (rw (t, u) at All-there.1))))
+    (λ u. absurd (bad_no_head UnknownKind at k (rw (t, u) at All-there.1))))
 
 -- a record that was answered with a job is one
-pub as_job : (left : List ℕ) (at n : ℕ) → record_at left at n ≡ Job → IsJob left n
+pub as_job : (left : List ℕ) (at n : ℕ) → record_at left at n ≡ Ok Job → IsJob left n
 unfolding record_at by_kind
 as_job left at n e =
     let some_bytes = good_job (ltb (length left) 2) _ _ _ e in
@@ -147,18 +157,18 @@ as_job left at n e =
     (λ t. absurd (head_no_job left at (rw t at All-there.1)))
     (λ t. by_cases (eqb (kind_of left) 2)
     (λ u. job_is left at n l m (eqb-true _ _ u) (rw (t, u) at All-there.1))
-    (λ u. absurd (bad_no_job 22 at (rw (t, u) at All-there.1))))
+    (λ u. absurd (bad_no_job UnknownKind at (rw (t, u) at All-there.1))))
 
 -- and what is one is answered so
-pub head_answers : (left : List ℕ) (at n k : ℕ) → IsHead left at k → record_at left at n ≡ Head k
+pub head_answers : (left : List ℕ) (at n k : ℕ) → IsHead left at k → record_at left at n ≡ Ok (Head k)
 unfolding head_at
 head_answers left at n k i =
     let few : faults_of left ≤ 8 = omega arith in
     whole left at n (omega arith) (omega arith)
     ∙ kind_one left at n i.kind
-    ∙ rw (eq-eqb _ _ i.long, eq-eqb _ _ i.first, le-ltb _ _ few) (ap Head i.faults)
+    ∙ rw (eq-eqb _ _ i.long, eq-eqb _ _ i.first, le-ltb _ _ few) (ap (λ (k : ℕ). Ok (Head k)) i.faults)
 
-pub job_answers : (left : List ℕ) (at n : ℕ) → IsJob left n → record_at left at n ≡ Job
+pub job_answers : (left : List ℕ) (at n : ℕ) → IsJob left n → record_at left at n ≡ Ok Job
 unfolding job_at
 job_answers left at n i =
     whole left at n (omega arith) (omega arith)

@@ -7,7 +7,7 @@ ghost use Rattle.jobs.specs.Table.{row_words};
 ghost use Rattle.jobfile.specs.Bytes.{number_at, over};
 ghost use Rattle.jobfile.specs.Meaning.{length_of, row_of, strays, head_at, job_at, record_at, headed, meaning, answered, filled, Good, ReadsTo};
 
-use jobs::{MOST_FAULTS, MOST_JOBS, ROW};
+use jobs::{MOST_FAULTS, MOST_JOBS, ROW, Reason, Refusal, given};
 
 // The k of a file without a head.
 const HEADLESS_K: u32 = 2;
@@ -17,12 +17,11 @@ pub const HEAD_BYTES: usize = 5;
 
 pub const JOB_BYTES: usize = 20;
 
-// What stands at a record's place: a head with its k, a job, or 01's refusal with the record's offset.
-#[derive(Clone, Copy)]
+// What stands at a record's place: a head with its k, or a job.
+#[derive(Clone, Copy, Debug, PartialEq, Eq)]
 pub enum Record {
     Head(u32),
     Job,
-    Bad { number: u32, place: usize },
 }
 
 // The walk over the file: the lent bytes, and the offset of the next record.
@@ -32,11 +31,11 @@ pub struct Reader<'a> {
     pub at: usize,
 }
 
-// What reading a file answers: n and k, or refused with 01's number and a place.
-#[derive(Clone, Copy)]
-pub enum Contents {
-    Jobs { n: usize, k: u32 },
-    Refused { number: u32, place: usize },
+// What a job file holds beside its rows: n and k.
+#[derive(Clone, Copy, Debug, PartialEq, Eq)]
+pub struct Contents {
+    pub n: usize,
+    pub k: u32,
 }
 
 // The byte at an offset, as a number.
@@ -83,102 +82,54 @@ fn strays(left: &[u8]) -> bool
 }
 
 // Kind 1: 21, 23, 25.
-fn head(left: &[u8], at: usize) -> Record
+#[tactic(auto, unfolding(crate::specs::Meaning::head_at))]
+fn head(left: &[u8], at: usize) -> Result<Record, Refusal>
     requires { 2 + length_of left.now ≤ length left.now }
     ensures { result ≡ head_at left.now at }
 {
-    if u16_at(left, 0) != 3 {
-        return Record::Bad {
-            number: 21,
-            place: at,
-        };
-    }
-    if at != 0 {
-        return Record::Bad {
-            number: 23,
-            place: at,
-        };
-    }
+    given(u16_at(left, 0) != 3, Reason::WrongLength, at)?;
+    given(at != 0, Reason::LateHead, at)?;
     let k = byte_at(left, 4);
-    if MOST_FAULTS < k {
-        return Record::Bad {
-            number: 25,
-            place: at,
-        };
-    }
-    Record::Head(k)
+    given(MOST_FAULTS < k, Reason::StrayField, at)?;
+    Ok(Record::Head(k))
 }
 
 // Kind 2: 21, 24, 25.
-fn job(left: &[u8], at: usize, n: usize) -> Record
+#[tactic(auto, unfolding(crate::specs::Meaning::job_at))]
+fn job(left: &[u8], at: usize, n: usize) -> Result<Record, Refusal>
     requires { 2 + length_of left.now ≤ length left.now }
     ensures { result ≡ job_at left.now at n }
 {
-    if u16_at(left, 0) != 18 {
-        return Record::Bad {
-            number: 21,
-            place: at,
-        };
-    }
-    if MOST_JOBS <= n {
-        return Record::Bad {
-            number: 24,
-            place: at,
-        };
-    }
-    if strays(left) {
-        return Record::Bad {
-            number: 25,
-            place: at,
-        };
-    }
-    Record::Job
+    given(u16_at(left, 0) != 18, Reason::WrongLength, at)?;
+    given(MOST_JOBS <= n, Reason::JobTooMany, at)?;
+    given(strays(left), Reason::StrayField, at)?;
+    Ok(Record::Job)
 }
 
 // The record at the start of the bytes that are left, n jobs before it: 20, 21, 20, 22, then by its kind.
-fn record_of(left: &[u8], at: usize, n: usize) -> Record
+#[tactic(auto, unfolding(crate::specs::Meaning::record_at, crate::specs::Meaning::by_kind))]
+fn record_of(left: &[u8], at: usize, n: usize) -> Result<Record, Refusal>
     ensures { result ≡ record_at left.now at n }
 {
-    if left.len() < 2 {
-        return Record::Bad {
-            number: 20,
-            place: at,
-        };
-    }
+    given(left.len() < 2, Reason::CutRecord, at)?;
     let length = u16_at(left, 0) as usize;
-    if length < 2 {
-        return Record::Bad {
-            number: 21,
-            place: at,
-        };
-    }
-    if left.len() < 2 + length {
-        return Record::Bad {
-            number: 20,
-            place: at,
-        };
-    }
-    let kind = u16_at(left, 2);
-    match kind {
+    given(length < 2, Reason::WrongLength, at)?;
+    given(left.len() < 2 + length, Reason::CutRecord, at)?;
+    match u16_at(left, 2) {
         1 => head(left, at),
         2 => job(left, at, n),
-        _ => Record::Bad {
-            number: 22,
+        _ => Err(Refusal {
+            reason: Reason::UnknownKind,
             place: at,
-        },
+        }),
     }
 }
 
 // The record at an offset of the file.
-fn record_at(file: &[u8], at: usize, n: usize) -> Record
+fn record_at(file: &[u8], at: usize, n: usize) -> Result<Record, Refusal>
     ensures { result ≡ record_at (drop at file.now) at n }
 {
-    if file.len() <= at {
-        return Record::Bad {
-            number: 20,
-            place: at,
-        };
-    }
+    given(file.len() <= at, Reason::CutRecord, at)?;
     record_of(&file[at..], at, n)
 }
 
@@ -190,28 +141,29 @@ fn start<'a>(file: &'a [u8], at: usize) -> Reader<'a>
 }
 
 // The record at the reader's place.
-fn next<'a>(reader: Reader<'a>, n: usize) -> Record
+fn next<'a>(reader: Reader<'a>, n: usize) -> Result<Record, Refusal>
     ensures { result ≡ record_at (drop reader.entry.at reader.entry.file.now) reader.entry.at n }
 {
     record_at(reader.file, reader.at, n)
 }
 
 // The record that a reader at an offset of the file meets next: the walk's one way to the reader.
-fn next_at(file: &[u8], at: usize, n: usize) -> Record
+fn next_at(file: &[u8], at: usize, n: usize) -> Result<Record, Refusal>
     ensures { result ≡ record_at (drop at file.now) at n }
 {
     next(start(file, at), n)
 }
 
 // What reading answers, for a table buffer of so many words: the first refusal met ends it, and 26 comes after all records.
-fn answer(file: &[u8], room: usize) -> Contents
+fn answer(file: &[u8], room: usize) -> Result<Contents, Refusal>
     ensures { result ≡ answered (meaning file.now) room (length file.now) }
 {
     let mut at: usize = 0;
     let mut n: usize = 0;
     let mut k = HEADLESS_K;
     while at < file.len() {
-        match next_at(file, at, n) {
+        let record = next_at(file, at, n)?;
+        match record {
             Record::Head(faults) => {
                 k = faults;
                 at += HEAD_BYTES;
@@ -220,16 +172,10 @@ fn answer(file: &[u8], room: usize) -> Contents
                 n += 1;
                 at += JOB_BYTES;
             }
-            Record::Bad { number, place } => return Contents::Refused { number, place },
         }
     }
-    if room < n * ROW {
-        return Contents::Refused {
-            number: 26,
-            place: file.len(),
-        };
-    }
-    Contents::Jobs { n, k }
+    given(room < n * ROW, Reason::ShortTable, file.len())?;
+    Ok(Contents { n, k })
 }
 
 // Where the jobs begin: after the head, if the file has one.
@@ -237,7 +183,7 @@ fn first_job(file: &[u8]) -> usize
     ensures { result ≡ cond (headed file.now) 5 0 }
 {
     match next_at(file, 0, 0) {
-        Record::Head(_) => HEAD_BYTES,
+        Ok(Record::Head(_)) => HEAD_BYTES,
         _ => 0,
     }
 }
@@ -269,14 +215,10 @@ fn fill(file: &[u8], table: &mut [u32])
 }
 
 // Read a file: n and k, with the rows in the first 4 × n words of the table buffer. A refusal is found before the buffer is touched.
-pub fn read(file: &[u8], table: &mut [u32]) -> Contents
+pub fn read(file: &[u8], table: &mut [u32]) -> Result<Contents, Refusal>
     ensures { ReadsTo file.now table.old result table.new }
 {
-    match answer(file, table.len()) {
-        Contents::Refused { number, place } => Contents::Refused { number, place },
-        Contents::Jobs { n, k } => {
-            fill(file, table);
-            Contents::Jobs { n, k }
-        }
-    }
+    let contents = answer(file, table.len())?;
+    fill(file, table);
+    Ok(contents)
 }

@@ -12,8 +12,8 @@ use lib.Dec.{ltb, leb, lit≤, lit<}
 use borrow.Author.Tests.{ltb-true, ltb-false, le-ltb, leb-true, eq-eqb, not-false}
 use Rattle.jobs.specs.Below.{least}
 use Rattle.jobs.specs.Table.{row_words, jobs, lowest, highest, in_range}
-use Rattle.jobs.specs.Refusals.{first, cut_row, too_many_jobs, out_of_range, table_refusals}
-use Rattle.jobs.specs.declared.Check.TheVariants.{Fine}
+use Rattle.jobs.specs.Refusals.{fine, first, cut_row, too_many_jobs, out_of_range, table_refusals}
+use Rattle.jobs.specs.declared.refusal.Reason.TheVariants.{OutOfRange}
 use Rattle.jobs.proofs.Below.{by_cases, and_right, none_all, none_at, before_least, least_none}
 use Rattle.jobs.proofs.Refusals.{after_fine, not-given}
 use Rattle.jobfile.specs.Meaning.{strays}
@@ -23,16 +23,16 @@ InRange table = (i : ℕ) → i < length table → in_range (i % row_words) (get
 
 -- ---- a table that is not refused
 
-pub fine_in_range : (table : List ℕ) → first (table_refusals table) ≡ Fine → InRange table
-fine_in_range table fine i l =
-    let t = after_fine (cut_row table) (first (too_many_jobs table ∷ out_of_range table ∷ [])) fine in
+pub fine_in_range : (table : List ℕ) → first (table_refusals table) ≡ fine → InRange table
+fine_in_range table not_refused i l =
+    let t = after_fine (cut_row table) (first (too_many_jobs table ∷ out_of_range table ∷ [])) not_refused in
     let u = after_fine (too_many_jobs table) (first (out_of_range table ∷ [])) t.1 in
-    let v = after_fine (out_of_range table) Fine u.1 in
+    let v = after_fine (out_of_range table) fine u.1 in
     let bad : ℕ → Bool = λ i. not (in_range (i % row_words) (get_or table i 0)) in
-    let past : length table ≤ least (length table) bad = ltb-false _ _ (not-given (ltb (least (length table) bad) (length table)) 3 (least (length table) bad) v.0) in
+    let past : length table ≤ least (length table) bad = ltb-false _ _ (not-given (ltb (least (length table) bad) (length table)) OutOfRange (least (length table) bad) v.0) in
     not-false _ (before_least (length table) bad i (omega arith))
 
-pub in_range_fine : (table : List ℕ) (n : ℕ) → length table ≡ n * row_words → n ≤ 64 → InRange table → first (table_refusals table) ≡ Fine
+pub in_range_fine : (table : List ℕ) (n : ℕ) → length table ≡ n * row_words → n ≤ 64 → InRange table → first (table_refusals table) ≡ fine
 in_range_fine table n e h r =
     let no-rest : length table % row_words ≡ 0 = ap (λ (l : ℕ). l % row_words) e ∙ mul-mod_left n row_words in
     let few : jobs table ≤ 64 = omega (arith, ap (λ (l : ℕ). l / row_words) e ∙ mul-div_cancel n (lit< tt)) in

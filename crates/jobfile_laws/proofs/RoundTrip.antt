@@ -10,8 +10,8 @@ use lib.Seq.{length-take-le, drop_at}
 use lib.Dec.{lit<}
 use borrow.Author.Tests.{ltb-false}
 use Rattle.jobs.specs.Table.{row_words, jobs}
-use Rattle.jobs.specs.Refusals.{first, table_refusals, too_many_faults}
-use Rattle.jobs.specs.declared.Check.TheVariants.{Fine}
+use Rattle.jobs.specs.Refusals.{fine, first, table_refusals, too_many_faults}
+use Rattle.jobs.specs.declared.refusal.Reason.TheVariants.{TooManyFaults}
 use Rattle.jobs.proofs.Refusals.{not-given, good}
 use Rattle.jobfile.specs.Bytes.{number, words}
 use Rattle.jobfile.specs.Meaning.{row_of, strays, holds, with_row, walk, headless_k, meaning}
@@ -72,12 +72,12 @@ jobs-again (suc m) table at n k e h r =
 
 -- ---- the file
 
-pub read_back : (table : List ℕ) (k : ℕ) → first (table_refusals table) ≡ Fine → too_many_faults k ≡ Fine → meaning (file_of table k) ≡ holds table k
+pub read_back : (table : List ℕ) (k : ℕ) → first (table_refusals table) ≡ fine → too_many_faults k ≡ fine → meaning (file_of table k) ≡ holds table k
 unfolding meaning file_of
-read_back table k fine few =
+read_back table k not_refused few =
     let rest = jobs_bytes (jobs table) table in
-    let small : k ≤ 8 = ltb-false _ _ (not-given _ 4 0 few) in
-    let g = good table fine in
+    let small : k ≤ 8 = ltb-false _ _ (not-given _ TooManyFaults 0 few) in
+    let g = good table not_refused in
     walk-head (head_bytes k ++ rest) 0 0 headless_k k (head_answers (head_bytes k ++ rest) 0 0 k (head-again k rest small))
     ∙ ap (λ (l : List ℕ). walk l 0 5 0 k) (drop_at (head_bytes k) rest 5 (head_bytes-length k))
-    ∙ jobs-again (jobs table) table 5 0 k g.whole_rows (omega (arith, g.few_jobs)) (fine_in_range table fine)
+    ∙ jobs-again (jobs table) table 5 0 k g.whole_rows (omega (arith, g.few_jobs)) (fine_in_range table not_refused)

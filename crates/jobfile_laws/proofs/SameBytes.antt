@@ -12,11 +12,11 @@ use lib.Seq.{take_at, drop_at, take-add, drop-drop}
 use lib.Dec.{ltb, lit<}
 use borrow.Author.Tests.{ltb-true, ltb-false, le-ltb}
 use Rattle.jobs.specs.Table.{row_words, jobs}
-use Rattle.jobs.specs.Refusals.{first, table_refusals, too_many_faults}
-use Rattle.jobs.specs.declared.Check.TheVariants.{Fine}
+use Rattle.std.specs.Prelude.{Ok}
+use Rattle.jobs.specs.Refusals.{fine, first, table_refusals, too_many_faults}
+use Rattle.jobs.specs.declared.refusal.Reason.TheVariants.{TooManyFaults}
 use Rattle.jobs.proofs.Below.{by_cases}
 use Rattle.jobs.proofs.Refusals.{given-unless}
-use Rattle.jobfile.specs.Bytes.{number}
 use Rattle.jobfile.specs.Meaning.{row_of, record_at, Meaning, holds, refused, with_row, walk, is_head, headed, headless_k, meaning}
 use Rattle.jobfile.specs.declared.Record.TheVariants.{Head}
 use Rattle.jobfile.proofs.Bytes.{row-length}
@@ -91,7 +91,7 @@ jobs_more left n table i j =
 -- a row before a meaning that holds a table
 row_apart : (row : List ℕ) (m : Meaning) (table : List ℕ) (k : ℕ) → with_row row m ≡ holds table k → (rest : List ℕ) × (m ≡ holds rest k) × (row ++ rest ≡ table)
 row_apart row (holds rest k') table k e = let same : k' ≡ k = cc in let all : row ++ rest ≡ table = cc in (rest, ap (holds rest) same, all)
-row_apart row (refused number place) table k e = let z : ◌≡◌ {A = ℕ} 0 1 = cc in absurd (omega arith)
+row_apart row (refused refusal) table k e = let z : ◌≡◌ {A = ℕ} 0 1 = cc in absurd (omega arith)
 
 nothing_left : (left : List ℕ) (at n k : ℕ) (table : List ℕ) (faults : ℕ) → length left ≤ 0 → n ≤ 64 → walk left 0 at n k ≡ holds table faults → (k ≡ faults) × JobsRead left n table
 nothing_left [] at n k table faults l few e =
@@ -103,7 +103,7 @@ nothing_left (b ∷ left) at n k table faults l few e = absurd (omega arith)
 
 -- with no head at hand, a walk that holds a table has passed its jobs
 jobs_read : (fuel : ℕ) (left : List ℕ) (at n k : ℕ) (table : List ℕ) (faults : ℕ) → length left ≤ fuel → n ≤ 64
-    → ((k' : ℕ) → record_at left at n ≡ Head k' → ⊥) → walk left 0 at n k ≡ holds table faults → (k ≡ faults) × JobsRead left n table
+    → ((k' : ℕ) → record_at left at n ≡ Ok (Head k') → ⊥) → walk left 0 at n k ≡ holds table faults → (k ≡ faults) × JobsRead left n table
 jobs_read zero left at n k table faults l few headless e = nothing_left left at n k table faults (omega arith) few e
 jobs_read (suc fuel) left at n k table faults l few headless e =
     by_cases (ltb 0 (length left))
@@ -117,15 +117,15 @@ jobs_read (suc fuel) left at n k table faults l few headless e =
     let j = jobs_read fuel rest (at + 20) (n + 1) k apart.0 faults (omega (arith, length-drop 20 left)) (omega (arith, i.few))
     (λ k' q. let f = (as_head rest (at + 20) (n + 1) k' q).first in absurd (omega arith)) apart.1 in
     (j.0, subst (λ (t : List ℕ). JobsRead left n t) apart.2 (jobs_more left n apart.0 i j.1)))
-    (λ number place r.
-    let bad = walk_bad left at n k number place (ltb-true _ _ t) r in
+    (λ refusal r.
+    let bad = walk_bad left at n k refusal (ltb-true _ _ t) r in
     let z : ◌≡◌ {A = ℕ} 0 1 = cc in
     absurd (omega arith)))
     (λ t. nothing_left left at n k table faults (ltb-false _ _ t) few e)
 
 -- ---- the file
 
-not-headed : (file : List ℕ) → headed file ≡ false → (k : ℕ) → record_at file 0 0 ≡ Head k → ⊥
+not-headed : (file : List ℕ) → headed file ≡ false → (k : ℕ) → record_at file 0 0 ≡ Ok (Head k) → ⊥
 not-headed file t k r = true≢false (ap is_head (sym r) ∙ t)
 
 module _ (file table : List ℕ) (k : ℕ) (means : meaning file ≡ holds table k) where
@@ -148,17 +148,17 @@ module _ (file table : List ℕ) (k : ℕ) (means : meaning file ≡ holds table
   count_is left j = sym (ap (λ (l : ℕ). l / row_words) j.long ∙ mul-div_cancel j.count (lit< tt))
 
   -- What was read is not refused by 1, 2, 3 or 4
-  pub read_table_fine : first (table_refusals table) ≡ Fine
+  pub read_table_fine : first (table_refusals table) ≡ fine
   read_table_fine =
       by_cases (headed file)
       (λ t. let j = (after-head t).1 in in_range_fine table j.count j.long (omega (arith, j.few)) j.fits)
       (λ t. let j = (jobs_alone t).1 in in_range_fine table j.count j.long (omega (arith, j.few)) j.fits)
 
-  pub read_faults_fine : too_many_faults k ≡ Fine
+  pub read_faults_fine : too_many_faults k ≡ fine
   read_faults_fine =
       by_cases (headed file)
-      (λ t. given-unless 4 0 (le-ltb _ _ (after-head t).0.few))
-      (λ t. let rule = (jobs_alone t).0 in given-unless 4 0 (le-ltb 8 k (omega arith)))
+      (λ t. given-unless TooManyFaults 0 (le-ltb _ _ (after-head t).0.few))
+      (λ t. let rule = (jobs_alone t).0 in given-unless TooManyFaults 0 (le-ltb 8 k (omega arith)))
 
 module _ (file table : List ℕ) (k : ℕ) (bytes : IsBytes file) (means : meaning file ≡ holds table k) where
   pub headed_same_bytes : headed file ≡ true → file_of table k ≡ file

@@ -1,11 +1,10 @@
 -- The bytes of a table and k, and what writing them answers.
-use Rattle.std.specs.Prelude.{ℕ, zero, suc, ◌/◌, ◌%◌, ◌≡◌, List, [], ◌∷◌, ◌++◌, length, take, drop, ltb}
+use Rattle.std.specs.Prelude.{ℕ, zero, suc, ◌/◌, ◌%◌, ◌≡◌, List, [], ◌∷◌, ◌++◌, length, take, drop, ltb, Result, Ok, Err}
 use Rattle.jobs.specs.Table.{row_words, jobs}
-use Rattle.jobs.specs.Refusals.{given, first, table_refusals, too_many_faults}
-use Rattle.jobs.specs.declared.Check.{Check}
+use Rattle.jobs.specs.Refusals.{Check, given, granted, first, table_refusals, too_many_faults}
+use Rattle.jobs.specs.declared.refusal.Reason.TheVariants.{ShortFile}
+use Rattle.jobs.specs.declared.refusal.Refusal.{Refusal}
 use Rattle.jobfile.specs.Bytes.{over}
-use Rattle.jobfile_write.specs.declared.Written.{Written}
-use Rattle.jobfile_write.specs.declared.Written.TheVariants.{Length, Refused}
 
 -- A number as so many bytes.
 unfoldable pub bytes_of : ℕ → ℕ → List ℕ
@@ -36,23 +35,18 @@ file_of table k = head_bytes k ++ jobs_bytes (jobs table) table
 
 -- 28: write buffer shorter than the file; place: bytes needed.
 abbrev pub no_room : List ℕ → ℕ → ℕ → Check
-no_room table k room = given (ltb room (length (file_of table k))) 28 (length (file_of table k))
+no_room table k room = given (ltb room (length (file_of table k))) ShortFile (length (file_of table k))
 
 -- Write: 1, 2, 3, 4, 28.
 abbrev pub write_refusals : List ℕ → ℕ → ℕ → List Check
 write_refusals table k room = table_refusals table ++ too_many_faults k ∷ no_room table k room ∷ []
 
--- What writing answers: the file's length, or the refusal.
-abbrev pub reported : Check → ℕ → Written
-reported Check.Fine size = Length size
-reported (Check.Refused number place) size = Refused number place
-
 -- The buffer after writing: the file over its start, and as it was under a refusal.
 abbrev pub written : Check → List ℕ → List ℕ → List ℕ
-written Check.Fine file buffer = over file buffer
-written (Check.Refused number place) file buffer = buffer
+written (Ok _) file buffer = over file buffer
+written (Err refusal) file buffer = buffer
 
--- Write a file: the answer, and the lent bytes at the end.
-pub record WritesTo (table : List ℕ) (k : ℕ) (file : List ℕ) (answer : Written) (after : List ℕ) : Type 0 where
-  pub answers : answer ≡ reported (first (write_refusals table k (length file))) (length (file_of table k))
+-- Write a file: the answer, its length or the refusal, and the lent bytes at the end.
+pub record WritesTo (table : List ℕ) (k : ℕ) (file : List ℕ) (answer : Result ℕ Refusal) (after : List ℕ) : Type 0 where
+  pub answers : answer ≡ granted (first (write_refusals table k (length file))) (length (file_of table k))
   pub fills : after ≡ written (first (write_refusals table k (length file))) (file_of table k) file

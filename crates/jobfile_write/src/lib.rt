@@ -9,14 +9,7 @@ ghost use Rattle.jobfile.specs.Bytes.{over};
 ghost use Rattle.jobfile_write.specs.Writing.{bytes_of, word_bytes, head_bytes, job_bytes, jobs_bytes, file_of, write_refusals, WritesTo};
 
 use jobfile::{HEAD_BYTES, JOB_BYTES};
-use jobs::{Check, ROW};
-
-// What writing a file answers: its length, or refused with 01's number and a place.
-#[derive(Clone, Copy)]
-pub enum Written {
-    Length(usize),
-    Refused { number: u32, place: usize },
-}
+use jobs::{ROW, Reason, Refusal, check_faults, check_table, given, jobs};
 
 // The low byte of a number, over the first free byte.
 fn put_u8(x: u32, free: &mut [u8])
@@ -95,25 +88,13 @@ fn put_jobs(table: &[u32], free: &mut [u8])
 }
 
 // Refusals 1, 2, 3, 4 and 28, in this order.
-fn writable(table: &[u32], k: u32, room: usize) -> Check
+fn writable(table: &[u32], k: u32, room: usize) -> Result<(), Refusal>
     ensures { result ≡ first (write_refusals table.now k room) }
 {
-    match jobs::check_table(table) {
-        Check::Refused { number, place } => Check::Refused { number, place },
-        Check::Fine => match jobs::check_faults(k) {
-            Check::Refused { number, place } => Check::Refused { number, place },
-            Check::Fine => {
-                let needed = HEAD_BYTES + JOB_BYTES * jobs::jobs(table);
-                if room < needed {
-                    return Check::Refused {
-                        number: 28,
-                        place: needed,
-                    };
-                }
-                Check::Fine
-            }
-        },
-    }
+    check_table(table)?;
+    check_faults(k)?;
+    let needed = HEAD_BYTES + JOB_BYTES * jobs(table);
+    given(room < needed, Reason::ShortFile, needed)
 }
 
 // The head, and after it the jobs.
@@ -126,14 +107,10 @@ fn put_file(table: &[u32], k: u32, file: &mut [u8])
 }
 
 // Write a file: its length, with the bytes at the start of the lent buffer. A refusal is found before the buffer is touched.
-pub fn write(table: &[u32], k: u32, file: &mut [u8]) -> Written
+pub fn write(table: &[u32], k: u32, file: &mut [u8]) -> Result<usize, Refusal>
     ensures { WritesTo table.now k file.old result file.new }
 {
-    match writable(table, k, file.len()) {
-        Check::Refused { number, place } => Written::Refused { number, place },
-        Check::Fine => {
-            put_file(table, k, file);
-            Written::Length(HEAD_BYTES + JOB_BYTES * jobs::jobs(table))
-        }
-    }
+    writable(table, k, file.len())?;
+    put_file(table, k, file);
+    Ok(HEAD_BYTES + JOB_BYTES * jobs(table))
 }

@@ -1,6 +1,6 @@
 pub mod Below
 pub mod Arrays
-pub mod Table
+pub mod Words
 pub mod Urgency
 pub mod Refusals
 pub mod Placed

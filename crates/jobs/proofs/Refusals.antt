@@ -12,47 +12,49 @@ use lib.Dec.{leb, lit<}
 use borrow.Author.Tests.{ltb-false, leb-true, eqb-true, not-false}
 use Rattle.jobs.specs.Below.{least}
 use Rattle.jobs.specs.Table.{row_words, jobs, word, ready, run, deadline, recovery, lowest, highest, in_range}
-use Rattle.jobs.specs.Refusals.{given, after, first, cut_row, too_many_jobs, out_of_range, table_refusals}
-use Rattle.jobs.specs.declared.Check.{Check}
-use Rattle.jobs.specs.declared.Check.TheVariants.{Fine, Refused}
+use Rattle.std.specs.Prelude.{Ok, Err}
+use Rattle.jobs.specs.Refusals.{Check, fine, given, refused, after, first, cut_row, too_many_jobs, out_of_range, table_refusals}
+use Rattle.jobs.specs.declared.refusal.Reason.{Reason}
+use Rattle.jobs.specs.declared.refusal.Reason.TheVariants.{CutRow, TooManyJobs, OutOfRange}
+use Rattle.jobs.specs.declared.refusal.Refusal.{Refusal}
 use Rattle.jobs.proofs.Below.{and_left, and_right, before_least}
-use Rattle.jobs.proofs.Table.{bad_word}
+use Rattle.jobs.proofs.Words.{bad_word}
 
 -- ---- one condition
 
-pub refused_not_fine : {number place : ℕ} → Refused number place ≡ Fine → ⊥
-refused_not_fine e = let z : ◌≡◌ {A = ℕ} 0 1 = cc in omega arith
+pub refused_not_fine : {refusal : Refusal} → ◌≡◌ {A = Check} (Err refusal) fine → ⊥
+refused_not_fine e = cc
 
-pub given_when : {test : Bool} (number place : ℕ) → test ≡ true → given test number place ≡ Refused number place
-given_when number place e = rw e
+pub given_when : {test : Bool} (reason : Reason) (place : ℕ) → test ≡ true → given test reason place ≡ Err (refused reason place)
+given_when reason place e = rw e
 
-pub given-unless : {test : Bool} (number place : ℕ) → test ≡ false → given test number place ≡ Fine
-given-unless number place e = rw e
+pub given-unless : {test : Bool} (reason : Reason) (place : ℕ) → test ≡ false → given test reason place ≡ fine
+given-unless reason place e = rw e
 
 -- what is fine was not given
-pub not-given : (test : Bool) (number place : ℕ) → given test number place ≡ Fine → test ≡ false
-not-given true number place e = absurd (refused_not_fine e)
-not-given false number place e = refl
+pub not-given : (test : Bool) (reason : Reason) (place : ℕ) → given test reason place ≡ fine → test ≡ false
+not-given true reason place e = absurd (refused_not_fine e)
+not-given false reason place e = refl
 
 -- ---- the first of several
 
-pub after_fine : (a b : Check) → after a b ≡ Fine → (a ≡ Fine) × (b ≡ Fine)
-after_fine Fine b e = (refl, e)
-after_fine (Refused number place) b e = absurd (refused_not_fine e)
+pub after_fine : (a b : Check) → after a b ≡ fine → (a ≡ fine) × (b ≡ fine)
+after_fine (Ok tt) b e = (refl, e)
+after_fine (Err refusal) b e = absurd (refused_not_fine e)
 
 pub after-after : (a b c : Check) → after (after a b) c ≡ after a (after b c)
-after-after Fine b c = refl
-after-after (Refused number place) b c = refl
+after-after (Ok tt) b c = refl
+after-after (Err refusal) b c = refl
 
-pub after_last : (a : Check) → after a Fine ≡ a
-after_last Fine = refl
-after_last (Refused number place) = refl
+pub after_last : (a : Check) → after a fine ≡ a
+after_last (Ok tt) = refl
+after_last (Err refusal) = refl
 
 pub first-append : (xs ys : List Check) → first (xs ++ ys) ≡ after (first xs) (first ys)
 first-append [] ys = refl
 first-append (x ∷ xs) ys = ap (after x) (first-append xs ys) ∙ sym (after-after x (first xs) (first ys))
 
-pub fine_append : (xs ys : List Check) → first (xs ++ ys) ≡ Fine → (first xs ≡ Fine) × (first ys ≡ Fine)
+pub fine_append : (xs ys : List Check) → first (xs ++ ys) ≡ fine → (first xs ≡ fine) × (first ys ≡ fine)
 fine_append xs ys e = after_fine (first xs) (first ys) (sym (first-append xs ys) ∙ e)
 
 -- ---- a table that is not refused
@@ -67,21 +69,21 @@ pub record Good (table : List ℕ) : Type 0 where
   pub deadline_at_most : (job : ℕ) → job < jobs table → deadline table job ≤ 10000000
   pub recovery_at_most : (job : ℕ) → job < jobs table → recovery table job ≤ 100000
 
-module _ (table : List ℕ) (fine : first (table_refusals table) ≡ Fine) where
-  none_given : (cut_row table ≡ Fine) × (too_many_jobs table ≡ Fine) × (out_of_range table ≡ Fine)
+module _ (table : List ℕ) (not_refused : first (table_refusals table) ≡ fine) where
+  none_given : (cut_row table ≡ fine) × (too_many_jobs table ≡ fine) × (out_of_range table ≡ fine)
   none_given =
-      let rest = after_fine (cut_row table) _ fine in
+      let rest = after_fine (cut_row table) _ not_refused in
       let last = after_fine (too_many_jobs table) _ rest.1 in
       (rest.0, last.0, (after_fine (out_of_range table) _ last.1).0)
 
   whole : length table ≡ jobs table * row_words
   whole =
-      let no-rest = eqb-true (length table % row_words) 0 (not-false _ (not-given _ 1 (length table) none_given.0)) in
+      let no-rest = eqb-true (length table % row_words) 0 (not-false _ (not-given _ CutRow (length table) none_given.0)) in
       omega (arith, no-rest, div-add-mod' (length table) row_words)
 
   words-in_range : (i : ℕ) → i < length table → in_range (i % row_words) (get_or table i 0) ≡ true
   words-in_range i l =
-      let past : length table ≤ least (length table) (bad_word table) = ltb-false _ _ (not-given _ 3 _ none_given.2) in
+      let past : length table ≤ least (length table) (bad_word table) = ltb-false _ _ (not-given _ OutOfRange _ none_given.2) in
       not-false _ (before_least (length table) (bad_word table) i (omega arith))
 
   fields_in_range : (job field : ℕ) → job < jobs table → field < row_words → in_range field (word table job field) ≡ true
@@ -99,7 +101,7 @@ module _ (table : List ℕ) (fine : first (table_refusals table) ≡ Fine) where
   good =
       record {
         whole_rows = whole;
-        few_jobs = ltb-false 64 (jobs table) (not-given _ 2 0 none_given.1);
+        few_jobs = ltb-false 64 (jobs table) (not-given _ TooManyJobs 0 none_given.1);
         ready_at_most = λ job l. at_most job 0 l (lit< tt);
         run-at_least = λ job l. at_least job 1 l (lit< tt);
         run_at_most = λ job l. at_most job 1 l (lit< tt);

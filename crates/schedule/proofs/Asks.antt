@@ -8,14 +8,14 @@ use mathlib.Core.List.{List, [], ◌∷◌}
 use lib.ListN.{length}
 use borrow.Author.Tests.{ltb-false, eqb-true, not-false}
 use Rattle.jobs.specs.Table.{jobs}
-use Rattle.jobs.specs.Refusals.{after, first, table_refusals}
-use Rattle.jobs.specs.declared.Check.{Check}
-use Rattle.jobs.specs.declared.Check.TheVariants.{Fine, Refused}
+use Rattle.std.specs.Prelude.{Result, Err}
+use Rattle.jobs.specs.Refusals.{Check, fine, after, first, table_refusals}
+use Rattle.jobs.specs.declared.refusal.Reason.TheVariants.{ShortBuffer, WrongPattern, TooManyFailures}
+use Rattle.jobs.specs.declared.refusal.Refusal.{Refusal}
 use Rattle.jobs.proofs.Refusals.{not-given, after_fine, after_last, first-append}
 use Rattle.frame.specs.Schedule.{finish}
 use Rattle.schedule.specs.Asks.{short_buffer, wrong_pattern, too_many_failures, too_late, schedule_refusals, Scheduled, fill, free_slots_refusals, free_slots_answer}
 use Rattle.schedule.specs.Events.{Accepted}
-use Rattle.schedule.specs.declared.Free.{Free}
 
 -- ---- the refusals of schedule
 
@@ -29,32 +29,32 @@ module _ (table pattern : List ℕ) (room : ℕ) where
       (after_last (short_buffer table room))
 
   -- What is not refused is accepted, and the buffer has room.
-  pub not_refused : first (schedule_refusals table pattern room) ≡ Fine → Accepted table pattern × (jobs table ≤ room)
-  not_refused fine =
-      let a = after_fine (first (table_refusals table)) _ (sym schedule_refusals_lem ∙ fine) in
+  pub not_refused : first (schedule_refusals table pattern room) ≡ fine → Accepted table pattern × (jobs table ≤ room)
+  not_refused none =
+      let a = after_fine (first (table_refusals table)) _ (sym schedule_refusals_lem ∙ none) in
       let b = after_fine (wrong_pattern table pattern) _ a.1 in
       let c = after_fine (too_many_failures pattern) _ b.1 in (
         record {
-          fine = a.0;
+          good = a.0;
           counts =
               record {
-                long = eqb-true _ _ (not-false _ (not-given _ 6 (jobs table) b.0));
-                few = ltb-false _ _ (not-given _ 7 0 c.0);
+                long = eqb-true _ _ (not-false _ (not-given _ WrongPattern (jobs table) b.0));
+                few = ltb-false _ _ (not-given _ TooManyFailures 0 c.0);
               };
         },
-        ltb-false _ _ (not-given _ 5 (jobs table) c.1),
+        ltb-false _ _ (not-given _ ShortBuffer (jobs table) c.1),
       )
 
 -- ---- the promise of schedule
 
 module _ (table pattern before : List ℕ) where
-  pub scheduled_fine : (after : List ℕ) → first (schedule_refusals table pattern (length before)) ≡ Fine → after ≡ fill (jobs table) (finish table pattern) before
-      → Scheduled table pattern before after Fine
-  scheduled_fine after fine filled = record { answers = sym fine; fills = rw fine filled }
+  pub scheduled_fine : (after : List ℕ) → first (schedule_refusals table pattern (length before)) ≡ fine → after ≡ fill (jobs table) (finish table pattern) before
+      → Scheduled table pattern before after fine
+  scheduled_fine after none filled = record { answers = sym none; fills = rw none filled }
 
-  pub scheduled_refused : (number place : ℕ) → first (schedule_refusals table pattern (length before)) ≡ Refused number place
-      → Scheduled table pattern before before (Refused number place)
-  scheduled_refused number place refused = record { answers = sym refused; fills = rw refused }
+  pub scheduled_refused : (refusal : Refusal) → first (schedule_refusals table pattern (length before)) ≡ Err refusal
+      → Scheduled table pattern before before (Err refusal)
+  scheduled_refused refusal refused = record { answers = sym refused; fills = rw refused }
 
   -- Two results that the promise allows are equal.
   module _ (after after' : List ℕ) (answer answer' : Check) (one : Scheduled table pattern before after answer)
@@ -71,9 +71,9 @@ module _ (table pattern before : List ℕ) where
 pub free_slots_refusals_lem : (table : List ℕ) (a b : ℕ) → first (free_slots_refusals table a b) ≡ after (first (table_refusals table)) (too_late a b)
 free_slots_refusals_lem table a b = first-append (table_refusals table) (too_late a b ∷ []) ∙ ap (after (first (table_refusals table))) (after_last (too_late a b))
 
-pub free_slots_fine : (table : List ℕ) (a b : ℕ) → first (free_slots_refusals table a b) ≡ Fine → first (table_refusals table) ≡ Fine
+pub free_slots_fine : (table : List ℕ) (a b : ℕ) → first (free_slots_refusals table a b) ≡ fine → first (table_refusals table) ≡ fine
 free_slots_fine table a b e = (after_fine (first (table_refusals table)) (too_late a b) (sym (free_slots_refusals_lem table a b) ∙ e)).0
 
 -- Two results that the promise allows are equal.
-pub free_slots_one_answer : (table : List ℕ) (a b : ℕ) (r s : Free) → r ≡ free_slots_answer table a b → s ≡ free_slots_answer table a b → r ≡ s
+pub free_slots_one_answer : (table : List ℕ) (a b : ℕ) (r s : Result ℕ Refusal) → r ≡ free_slots_answer table a b → s ≡ free_slots_answer table a b → r ≡ s
 free_slots_one_answer table a b r s p q = p ∙ sym q

@@ -9,9 +9,8 @@ use lib.ListN.{length, take, replicate, length-replicate}
 use lib.Dec.{eqb}
 use borrow.Author.Tests.{le-ltb, lt-ltb, eq-eqb}
 use Rattle.jobs.specs.Table.{row_words, jobs}
-use Rattle.jobs.specs.Refusals.{first, table_refusals}
-use Rattle.jobs.specs.declared.Check.{Check}
-use Rattle.jobs.specs.declared.Check.TheVariants.{Fine, Refused}
+use Rattle.std.specs.Prelude.{Ok, Err}
+use Rattle.jobs.specs.Refusals.{Check, fine, first, table_refusals}
 use Rattle.jobs.proofs.Below.{by_cases}
 use Rattle.jobs.proofs.Refusals.{good}
 use Rattle.frame.specs.Schedule.{no_faults}
@@ -40,22 +39,22 @@ module _ (table : List ℕ) where
   unfolding no_faults
   zeros_few = record { long = length-replicate (jobs table) 0; few = omega (arith, sum_zeros (jobs table)) }
 
-  zeros_accepted : first (table_refusals table) ≡ Fine → first (schedule_refusals table (no_faults table) 64) ≡ Fine
+  zeros_accepted : first (table_refusals table) ≡ fine → first (schedule_refusals table (no_faults table) 64) ≡ fine
   unfolding no_faults
-  zeros_accepted fine =
+  zeros_accepted none =
       schedule_refusals_lem table (no_faults table) 64
       ∙ rw (
-        fine,
+        none,
         eq-eqb (length (replicate {A = ℕ} (jobs table) 0)) (jobs table) (length-replicate (jobs table) 0),
         sum_zeros (jobs table),
-        le-ltb 64 (jobs table) (good table fine).few_jobs,
+        le-ltb 64 (jobs table) (good table none).few_jobs,
       )
 
   module _ (n : ℕ) (after : List ℕ) (answer : Check) (e : n ≡ jobs table) (l : n ≤ 64) (s : Scheduled table (take n (replicate 64 0)) (replicate 64 0) after answer) where
     either : (c : Check) → first (table_refusals table) ≡ c → after ≡ fault_free_finishes table
     unfolding fault_free
-    either Fine fine = rw (fine) (rw (zeros_none n e l, zeros_accepted fine) at s.fills)
-    either (Refused number place) refused = rw (refused) (rw (schedule_refusals_lem table (take n (replicate 64 0)) 64, refused) at s.fills)
+    either (Ok tt) none = rw (none) (rw (zeros_none n e l, zeros_accepted none) at s.fills)
+    either (Err refusal) refused = rw (refused) (rw (schedule_refusals_lem table (take n (replicate 64 0)) 64, refused) at s.fills)
 
     pub zeros_finishes : after ≡ fault_free_finishes table
     zeros_finishes = either (first (table_refusals table)) refl

@@ -66,7 +66,7 @@ turns_at_most table clock left =
 
 module _ (table pattern before : List ℕ) (accepted : Accepted table pattern) where
   table_good : Good table
-  table_good = good table accepted.fine
+  table_good = good table accepted.good
 
   -- ---- the start
 

@@ -1,36 +1,34 @@
 -- What may be asked of a frame's schedule, with the refusals and the final contents of the lent buffer.
-use Rattle.std.specs.Prelude.{ℕ, ◌≡◌, not, ◌||◌, List, [], ◌∷◌, ◌++◌, length, drop, replicate, ltb, eqb}
+use Rattle.std.specs.Prelude.{ℕ, ◌≡◌, not, ◌||◌, List, [], ◌∷◌, ◌++◌, length, drop, replicate, ltb, eqb, Result, Ok, Err}
 use Rattle.jobs.specs.Below.{listed}
 use Rattle.jobs.specs.Table.{jobs}
-use Rattle.jobs.specs.Refusals.{given, first, cut_row, too_many_jobs, out_of_range, table_refusals}
-use Rattle.jobs.specs.declared.Check.{Check}
-use Rattle.jobs.specs.declared.Check.TheVariants.{Fine, Refused}
+use Rattle.jobs.specs.Refusals.{Check, given, granted, first, cut_row, too_many_jobs, out_of_range, table_refusals}
+use Rattle.jobs.specs.declared.refusal.Reason.TheVariants.{ShortBuffer, WrongPattern, TooManyFailures, TooLate}
+use Rattle.jobs.specs.declared.refusal.Refusal.{Refusal}
 use Rattle.frame.specs.Schedule.{finish, free_slots}
 use Rattle.frame.specs.Latest.{sum}
 use Rattle.frame.specs.Delays.{fault_free}
-use Rattle.schedule.specs.declared.Free.{Free}
-use Rattle.schedule.specs.declared.Free.TheVariants.{Slots}
 
 -- 5: buffer for finishes or delays shorter than n; place: n.
 abbrev pub short_buffer : List ℕ → ℕ → Check
-short_buffer table room = given (ltb room (jobs table)) 5 (jobs table)
+short_buffer table room = given (ltb room (jobs table)) ShortBuffer (jobs table)
 
 -- 6: given pattern not of length n; place: n.
 abbrev pub wrong_pattern : List ℕ → List ℕ → Check
-wrong_pattern table pattern = given (not (eqb (length pattern) (jobs table))) 6 (jobs table)
+wrong_pattern table pattern = given (not (eqb (length pattern) (jobs table))) WrongPattern (jobs table)
 
 -- 7: exact sum of a given pattern over 8.
 abbrev pub too_many_failures : List ℕ → Check
-too_many_failures pattern = given (ltb 8 (sum pattern)) 7 0
+too_many_failures pattern = given (ltb 8 (sum pattern)) TooManyFailures 0
 
 -- 9: a time asked of free slots over 10,000,000.
 abbrev pub too_late : ℕ → ℕ → Check
-too_late a b = given (ltb 10000000 a || ltb 10000000 b) 9 0
+too_late a b = given (ltb 10000000 a || ltb 10000000 b) TooLate 0
 
 -- No lent buffer changes under a refusal.
 abbrev pub unless : {A : Type 0} → Check → A → A → A
-unless Fine new old = new
-unless (Refused number place) new old = old
+unless (Ok _) new old = new
+unless (Err refusal) new old = old
 
 -- Results fill the first n words of the lent buffer and leave the others.
 unfoldable pub fill : ℕ → (ℕ → ℕ) → List ℕ → List ℕ
@@ -57,11 +55,6 @@ fault_free_finishes table =
 abbrev pub free_slots_refusals : List ℕ → ℕ → ℕ → List Check
 free_slots_refusals table a b = cut_row table ∷ too_many_jobs table ∷ out_of_range table ∷ too_late a b ∷ []
 
--- An answer of free slots: the count, or the refusal.
-abbrev pub counted : Check → ℕ → Free
-counted Fine count = Slots count
-counted (Refused number place) count = Free.Refused number place
-
--- Free slots.
-abbrev pub free_slots_answer : List ℕ → ℕ → ℕ → Free
-free_slots_answer table a b = counted (first (free_slots_refusals table a b)) (free_slots table a b)
+-- Free slots: the count, or the refusal.
+abbrev pub free_slots_answer : List ℕ → ℕ → ℕ → Result ℕ Refusal
+free_slots_answer table a b = granted (first (free_slots_refusals table a b)) (free_slots table a b)

@@ -3,9 +3,8 @@
 use Rattle.std.specs.Prelude.{ℕ, zero, suc, ◌+◌, ◌-◌, ◌≤◌, ◌<◌, min, ◌≡◌, Bool, true, false, cond, ◌&&◌, List, length, get_or, set, leb, ltb}
 use Rattle.jobs.specs.Below.{some}
 use Rattle.jobs.specs.Table.{jobs, ready}
-use Rattle.jobs.specs.Refusals.{first, table_refusals}
+use Rattle.jobs.specs.Refusals.{fine, first, table_refusals}
 use Rattle.jobs.specs.Orders.{filled, the_job, by_urgency}
-use Rattle.jobs.specs.declared.Check.TheVariants.{Fine}
 use Rattle.frame.specs.Schedule.{foremost}
 use Rattle.frame.specs.Latest.{AtMost}
 use Rattle.schedule.specs.declared.events.Choice.{Choice}
@@ -14,7 +13,7 @@ use Rattle.schedule.specs.declared.events.Clock.{Clock}
 
 -- A table that is not refused, and a pattern for its jobs that is not refused.
 pub record Accepted (table pattern : List ℕ) : Type 0 where
-  pub fine : first (table_refusals table) ≡ Fine
+  pub good : first (table_refusals table) ≡ fine
   pub counts : AtMost (jobs table) 8 pattern
 
 -- The ready times of at most 64 jobs, by job number.

@@ -8,7 +8,7 @@ ghost use Rattle.frame.specs.Schedule.{need, finish};
 ghost use Rattle.schedule.specs.Asks.{Scheduled, fill, schedule_refusals, fault_free_finishes, too_many_failures};
 ghost use Rattle.schedule.specs.Events.{Accepted, ReadyTimes, job_of, to_come, next_ready, still_waits, Chosen, Fits, Ran, Allows, Passes};
 
-use jobs::{Check, Job, first_of, given};
+use jobs::{Job, Reason, Refusal, given};
 
 // No job becomes ready at this time or later.
 const NEVER: u32 = 10_000_000;
@@ -28,34 +28,33 @@ struct Clock {
 }
 
 // Refusal 7. The sum is left as soon as it is over 8, so it never overflows.
-fn check_sum(pattern: &[u32]) -> Check
+fn check_sum(pattern: &[u32]) -> Result<(), Refusal>
     ensures { result ≡ too_many_failures pattern.now }
 {
     let mut sum: u32 = 0;
     let mut i = 0;
     while i < pattern.len() {
         if jobs::MOST_FAULTS - sum < pattern[i] {
-            return Check::Refused {
-                number: 7,
+            return Err(Refusal {
+                reason: Reason::TooManyFailures,
                 place: 0,
-            };
+            });
         }
         sum += pattern[i];
         i += 1;
     }
-    Check::Fine
+    Ok(())
 }
 
 // The refusals of schedule, in their order: 1, 2, 3, 6, 7, 5.
-fn check(table: &[u32], pattern: &[u32], room: usize) -> Check
+fn check(table: &[u32], pattern: &[u32], room: usize) -> Result<(), Refusal>
     ensures { result ≡ first (schedule_refusals table.now pattern.now room) }
 {
     let n = jobs::jobs(table);
-    let rows = jobs::check_table(table);
-    let counts = given(pattern.len() != n, 6, n);
-    let sum = check_sum(pattern);
-    let space = given(room < n, 5, n);
-    first_of(rows, first_of(counts, first_of(sum, space)))
+    jobs::check_table(table)?;
+    given(pattern.len() != n, Reason::WrongPattern, n)?;
+    check_sum(pattern)?;
+    given(room < n, Reason::ShortBuffer, n)
 }
 
 // The slots that a job needs: C + f × V.
@@ -221,20 +220,12 @@ fn walk(table: &[u32], pattern: &[u32], finishes: &mut [u32])
 }
 
 // Schedule: the finishes under a given pattern, or the refusal.
-pub fn schedule(table: &[u32], pattern: &[u32], finishes: &mut [u32]) -> Check
+pub fn schedule(table: &[u32], pattern: &[u32], finishes: &mut [u32]) -> Result<(), Refusal>
     ensures { Scheduled table.now pattern.now finishes.old finishes.new result }
 {
-    let answer = check(table, pattern, finishes.len());
-    match answer {
-        Check::Fine => {
-            walk(table, pattern, finishes);
-            Check::Fine
-        }
-        Check::Refused { number, place } => Check::Refused {
-            number: number,
-            place: place,
-        },
-    }
+    check(table, pattern, finishes.len())?;
+    walk(table, pattern, finishes);
+    Ok(())
 }
 
 // The fault-free finish of each job, by job number: the schedule under a pattern of zeros. All zeros for a table that is refused.
@@ -247,6 +238,6 @@ pub fn fault_free(table: &[u32]) -> [u32; 64]
     if jobs::MOST_JOBS < n {
         return finishes;
     }
-    schedule(table, &none[..n], &mut finishes);
+    let _ = schedule(table, &none[..n], &mut finishes);
     finishes
 }

@@ -17,7 +17,7 @@ recoveries : (c : goal.After-recovery)
     get_or a.pattern.now a.job.0 0 * c.recovery.result ≤ 800000
 recoveries c =
     let a = c.args in
-    let good-table = good a.table.now c.requires.accepted.fine in
+    let good-table = good a.table.now c.requires.accepted.good in
     rw c.recovery.ensures
     (recovery_at_most a.table.now a.pattern.now good-table 8 (omega arith) c.requires.accepted.counts a.job.0 c.requires.job_bound)
 
@@ -27,7 +27,7 @@ overflow_mul-result c = omega (arith, recoveries c)
 pub overflow_add-result : goal.overflow_add-result
 overflow_add-result c =
     let a = c.args in
-    omega (arith, recoveries c, c.run.ensures, (good a.table.now c.requires.accepted.fine).run_at_most a.job.0 c.requires.job_bound)
+    omega (arith, recoveries c, c.run.ensures, (good a.table.now c.requires.accepted.good).run_at_most a.job.0 c.requires.job_bound)
 
 pub returns : goal.returns
 unfolding need

@@ -17,7 +17,7 @@ loop-j-init c =
 -- there is an entry for each job
 in_array : (c : goal.After-need_of) → c.loop-j.j < 64
 in_array c =
-    omega (arith, c.jobs-n.ensures, (good c.args.table.now c.requires.fine).few_jobs)
+    omega (arith, c.jobs-n.ensures, (good c.args.table.now c.requires.good).few_jobs)
 
 pub need_of-requires : goal.need_of-requires
 need_of-requires c = record { accepted = c.requires; job_bound = omega (arith, c.jobs-n.ensures) }
@@ -43,4 +43,4 @@ returns c =
     let n = jobs c.args.table.now in
     let all : l.j ≡ n = omega (arith, c.jobs-n.ensures) in
     placed_all (λ x. x) (λ i. i) (need c.args.table.now c.args.pattern.now) n (λ p. p) l.left
-    (good c.args.table.now c.requires.fine).few_jobs (λ j m. m) (λ p m. m) (λ p m. refl) (rw all at l.invariant.1)
+    (good c.args.table.now c.requires.good).few_jobs (λ j m. m) (λ p m. m) (λ p m. refl) (rw all at l.invariant.1)

@@ -8,7 +8,7 @@ use Rattle.schedule.proofs.Walk.{stands_first, allowed, turns_next, stands_next,
 use Rattle.schedule.proofs.events.walk.Goals as goal
 
 pub ready_times-times-requires : goal.ready_times-times-requires
-ready_times-times-requires c = (good c.args.table.now c.requires.accepted.fine).few_jobs
+ready_times-times-requires c = (good c.args.table.now c.requires.accepted.good).few_jobs
 
 pub needs-left-requires : goal.needs-left-requires
 needs-left-requires c = c.requires.accepted

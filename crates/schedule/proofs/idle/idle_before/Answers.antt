@@ -28,15 +28,15 @@ bounds-order-i c = omega (arith, c.jobs-n.ensures, (good c.args.table.now c.requ
 
 -- ---- a job that is not ready before t
 
-stopped : (c : goal.After-larger)
+stopped : (c : goal.After-max)
     → idle_before c.args.table.now c.args.t
-    + c.loop-i.runs ≡ c.larger.result
+    + c.loop-i.runs ≡ c.max.result
 stopped c =
     let a = c.args in
     let l = c.loop-i in
     let here = this-job a.table.now a.order l.i (good c.args.table.now c.requires.table_value) (omega (arith, c.jobs-n.ensures)) c.requires.order_value in
     let late : a.t ≤ comes_at a.table.now l.i = omega (arith, c.if-t-came.true, c.ready-came.ensures ∙ ap (λ j. ready a.table.now j.0) here) in
-    served_all a.table.now a.t l.i l.until l.runs (λ k. late) l.invariant.1 ∙ sym c.larger.ensures
+    served_all a.table.now a.t l.i l.until l.runs (λ k. late) l.invariant.1 ∙ sym c.max.ensures
 
 pub overflow_sub-result : goal.overflow_sub-result
 overflow_sub-result c = omega (arith, stopped c)
@@ -46,15 +46,15 @@ returns-then-t-came c = omega (arith, stopped c)
 
 -- ---- a job that is ready before t
 
-served : (c : goal.After-larger-in-loop-i)
+served : (c : goal.After-max-in-loop-i)
     → Served c.args.table.now c.args.t
-    (c.loop-i.i + 1) (c.larger-in-loop-i.result + c.run-longest.result) (c.loop-i.runs + c.run-longest.result)
+    (c.loop-i.i + 1) (c.max-in-loop-i.result + c.run-longest.result) (c.loop-i.runs + c.run-longest.result)
 served c =
     let a = c.args in
     let l = c.loop-i in
     let below : l.i < jobs a.table.now = omega (arith, c.jobs-n.ensures) in
     let here = this-job a.table.now a.order l.i (good c.args.table.now c.requires.table_value) below c.requires.order_value in
-    rw c.larger-in-loop-i.ensures
+    rw c.max-in-loop-i.ensures
     (served_more a.table.now a.t l.i l.until l.runs _ _ _ below here c.ready-came.ensures c.run-longest.ensures
     c.if-t-came.false l.invariant.1)
 
@@ -69,14 +69,14 @@ loop-i-preserved c = (omega arith, served c)
 
 -- ---- every job was ready before t
 
-all-served : (c : goal.After-larger-2)
+all-served : (c : goal.After-max-2)
     → idle_before c.args.table.now c.args.t
-    + c.loop-i.runs ≡ c.larger-2.result
+    + c.loop-i.runs ≡ c.max-2.result
 all-served c =
     let a = c.args in
     let l = c.loop-i in
     served_all a.table.now a.t l.i l.until l.runs (λ k. absurd (omega (arith, c.jobs-n.ensures))) l.invariant.1
-    ∙ sym c.larger-2.ensures
+    ∙ sym c.max-2.ensures
 
 pub overflow_sub-result-2 : goal.overflow_sub-result-2
 overflow_sub-result-2 c = omega (arith, all-served c)
