@@ -1,25 +1,19 @@
 // What the lines are made of. Each piece starts with a space.
 use frame::Verdict;
-use jobs::Job;
+use jobfile::Contents;
+use jobs::{Job, Refusal};
 use std::fmt;
 use std::fmt::{Display, Formatter};
 
-// A refusal.
-#[derive(Clone, Copy)]
-pub(crate) struct Refusal {
-    pub(crate) number: u32,
-    pub(crate) place: usize,
-}
-
 // An answer, or the refusal.
-#[derive(Clone, Copy)]
+#[derive(Drop)]
 pub(crate) struct Answer<T>(pub(crate) Result<T, Refusal>);
 
 impl<T: Display> Display for Answer<T> {
     fn fmt<W: fmt::Write>(&self, f: &mut Formatter<W>) -> fmt::Result {
         match &self.0 {
             Ok(answer) => write!(f, "{answer}"),
-            Err(Refusal { number, place }) => write!(f, " refused {number} at {place}"),
+            Err(refusal) => write!(f, " {refusal}"),
         }
     }
 }
@@ -102,38 +96,34 @@ impl Display for Slots {
     }
 }
 
-// On a miss, the named job's finish.
+// Under a pattern: on a miss, the named job's finish.
 #[derive(Clone, Copy)]
 pub(crate) struct Shown<'a>(pub(crate) Verdict, pub(crate) &'a [u32]);
 
 impl Display for Shown<'_> {
     fn fmt<W: fmt::Write>(&self, f: &mut Formatter<W>) -> fmt::Result {
-        match self.0 {
-            Verdict::Sound => write!(f, " sound"),
-            Verdict::Miss(job, _) => {
-                write!(f, " job {} finishes at", job.0)?;
-                match self.1.get(job.0) {
-                    Some(finish) => write!(f, " {finish}"),
-                    None => Ok(()),
-                }
-            }
+        write!(f, " under the pattern")?;
+        let Verdict::Miss(job, _) = self.0 else {
+            return write!(f, " sound");
+        };
+        write!(f, " job {} finishes at", job.0)?;
+        match self.1.get(job.0) {
+            Some(finish) => write!(f, " {finish}"),
+            None => Ok(()),
         }
     }
 }
 
 // What a file of at most one job holds: k, the number of jobs and the row.
 #[derive(Clone, Copy)]
-pub(crate) struct File<'a> {
-    pub(crate) k: u32,
-    pub(crate) n: usize,
-    pub(crate) table: &'a [u32],
-}
+pub(crate) struct File<'a>(pub(crate) Contents, pub(crate) &'a [u32]);
 
 impl Display for File<'_> {
     fn fmt<W: fmt::Write>(&self, f: &mut Formatter<W>) -> fmt::Result {
-        write!(f, " k {}, jobs {}", self.k, self.n)?;
-        if 0 < self.n {
-            write!(f, ",{}", Words("row", self.table))?;
+        let File(Contents { n, k }, table) = self;
+        write!(f, " k {k}, jobs {n}")?;
+        if 0 < *n {
+            write!(f, ",{}", Words("row", table))?;
         }
         Ok(())
     }
