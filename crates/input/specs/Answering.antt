@@ -1,5 +1,5 @@
 -- What a program answers on the file in its input, where the bytes of the input are known.
-use Rattle.std.specs.Prelude.{ℕ, ◌≡◌, ◌⊎◌, List, Option, IfSome, take, codes}
+use Rattle.std.specs.Prelude.{ℕ, ◌≡◌, ◌≤◌, ◌⊎◌, List, Option, IfSome, length, take, codes}
 use Rattle.std.specs.Borrow.{Bor, MutBor}
 use Rattle.std.specs.Fn.{Shared}
 use Rattle.std.specs.Io.KnownBytes.{Consumes}
@@ -8,8 +8,9 @@ use Rattle.std.specs.Io.KnownBytes.{Consumes}
 abbrev pub most_read : ℕ
 most_read = 65536
 
--- A file is what an input has, or its first `most` bytes, and the input loses these.
+-- A file has at most `most` bytes. It is what the input has, or its first `most` bytes, and the input loses these.
 pub record Reads (most : ℕ) (input input' : Option (List ℕ)) (file : List ℕ) : Type 0 where
+  pub fits : length file ≤ most
   pub whole : IfSome input (λ xs. file ≡ take most xs)
   pub lost : Consumes input input' file
 
