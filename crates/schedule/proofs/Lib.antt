@@ -1,8 +1,9 @@
 pub mod Jumps
 pub mod Fill
-pub mod Sorted
-pub mod NextReady
-pub mod Walk
 pub mod Served
+pub mod Made
+pub mod NextReady
+pub mod Sorted
+pub mod Walk
 pub mod Asks
 pub mod FaultFree
