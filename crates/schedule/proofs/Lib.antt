@@ -1,7 +1,6 @@
 pub mod Jumps
 pub mod Fill
 pub mod Served
-pub mod Made
 pub mod NextReady
 pub mod Sorted
 pub mod Walk

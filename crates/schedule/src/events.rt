@@ -1,8 +1,9 @@
 // The ask schedule: the finishes under a given pattern, from event to event. An event is that a job ends or becomes ready.
-ghost use Rattle.std.specs.Prelude.{◌≡◌, ◌<◌, ◌≤◌, ◌&&◌, [], ◌∷◌, leb, ltb, length, find};
+ghost use Rattle.std.specs.Prelude.{ℕ, ◌≡◌, ◌<◌, ◌≤◌, ◌&&◌, [], ◌∷◌, leb, ltb, length, get_or, find};
 ghost use Rattle.std.specs.List.{All};
 ghost use Rattle.jobs.specs.Arrays.{Holds};
 ghost use Rattle.jobs.specs.Table.{jobs, ready};
+ghost use Rattle.jobs.specs.Orders.{the_job};
 ghost use Rattle.jobs.specs.Refusals.{first};
 ghost use Rattle.frame.specs.Schedule.{need, finish};
 ghost use Rattle.frame.specs.Latest.{AtMost};
@@ -10,7 +11,6 @@ ghost use Rattle.schedule.specs.Asks.{Scheduled, fill, wrong_pattern, too_many_f
 ghost use Rattle.schedule.specs.Events.{to_come, ComesNext, waiting, Fits, Ran};
 
 use jobs::{Job, MOST_FAULTS, MOST_JOBS, Reason, Refusal, Table, given};
-use std::array;
 
 // No job becomes ready at this time or later.
 const NEVER: u32 = 10_000_000;
@@ -52,25 +52,34 @@ fn need_of(table: &Table, pattern: &[u32], job: Job) -> u32
     jobs::run(words, job) + pattern[job.0] * jobs::recovery(words, job)
 }
 
-// The ready times, by job number, which every event reads.
+// What a function gives for each of n jobs, by job number.
+fn by_number<F: Fn(Job) -> u32>(n: usize, of_job: F) -> [u32; 64]
+    requires few { n ≤ 64 }
+    requires callable { (j : ℕ) → j < n → F.pre of_job (the_job j) }
+    ensures long { length result ≡ 64 }
+    ensures each { (j : ℕ) → j < n → F.post of_job (the_job j) (get_or result j 0) }
+{
+    let mut numbers = [0; 64];
+    for j in 0..n {
+        numbers[j] = of_job(Job(j));
+    }
+    numbers
+}
+
+// The ready times, which every event reads.
 fn ready_times(table: &Table) -> [u32; 64]
     ensures { Holds 64 result (jobs table.now) (ready table.now) }
 {
-    let (words, n) = (table.words(), table.jobs());
-    array::from_fn(|j| if j < n { jobs::ready(words, Job(j)) } else { 0 })
+    let words = table.words();
+    by_number(table.jobs(), |job| jobs::ready(words, job))
 }
 
-// The slots that each job needs: C + f × V.
+// The slots that each job needs.
 fn needs(table: &Table, pattern: &[u32]) -> [u32; 64]
     requires { AtMost (jobs table.now) 8 pattern.now }
     ensures { Holds 64 result (jobs table.now) (need table.now pattern.now) }
 {
-    let n = table.jobs();
-    array::from_fn(|j| if j < n {
-        need_of(table, pattern, Job(j))
-    } else {
-        0
-    })
+    by_number(table.jobs(), |job| need_of(table, pattern, job))
 }
 
 // A ready time, if it is still to come; else NEVER.
@@ -91,15 +100,24 @@ fn next_ready(times: &[u32], time: u32) -> Option<u32>
     (next < NEVER).then_some(next)
 }
 
+// Whether a job with this ready time and this much left waits. Both are read at once, and tested without a branch.
+fn waits(ready: u32, left: u32, time: u32) -> bool
+    ensures { result ≡ leb ready time && ltb 0 left }
+{
+    ready <= time && 0 < left
+}
+
 // The most urgent waiting job: the first that waits of the jobs sorted by urgency.
 fn pick(sorted: &[Job], times: &[u32], left: &[u32], time: u32) -> Option<Job>
     requires { All (λ job. (job.0 < length times.now) × (job.0 < length left.now)) sorted.now }
     ensures { result ≡ find (waiting times.now left.now time) sorted.now }
 {
-    sorted
-        .iter()
-        .copied()
-        .find(|job| times[job.0] <= time && 0 < left[job.0])
+    for job in sorted {
+        if waits(times[job.0], left[job.0], time) {
+            return Some(*job);
+        }
+    }
+    None
 }
 
 // A job runs to its end or up to the next ready time, whichever comes first. The time then.

@@ -1,11 +1,7 @@
--- `schedule::events::ready_times` meets its contract: each call of the closure reads the ready time of one job. Assumes nothing.
+-- `schedule::events::ready_times` meets its contract: the closure reads a job's ready time. Assumes nothing.
 use native.Mathlib.Omega.{arith}
-use mathlib.Core.Path.{◌≡◌}
 use Rattle.std.proofs.Common.{rules}
-use Rattle.schedule.proofs.Made.{made}
 use Rattle.schedule.proofs.events.ready_times.Goals as goal
 
 pub returns : goal.returns
-returns c =
-    made _ (λ f. (f.0.now ≡ c.jobs-n.result) × (f.1.now ≡ c.words-words.result.now)) _ _
-    (λ f f' i x called kept. (search rules, λ l. search rules)) _ _ c.from_fn.ensures.items (search rules) (omega (arith, c.jobs-n.ensures.count))
+returns c = record { long = c.by_number.ensures.long; each = λ i l. let gave = c.by_number.ensures.each i (omega (arith, c.jobs.ensures.count)) in search rules }
