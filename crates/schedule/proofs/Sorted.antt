@@ -65,7 +65,7 @@ sorted table = take (jobs table) (by_urgency table).job
 
 length-by_urgency : (table : List ℕ) → length (by_urgency table).job ≡ 64
 unfolding by_urgency
-length-by_urgency table = length-filled the_job (held table) (job_at (urgent table) (jobs table)) (held_at_most table)
+length-by_urgency table = length-filled the_job (held table) (job_at (urgent table) (jobs table)) (held_at_most (jobs table))
 
 module _ (table : List ℕ) (few : jobs table ≤ 64) where
   rearranged : Rearranges (urgent table) (jobs table) (job_of table) (rank_of table)
