@@ -68,7 +68,6 @@ pub fn answer<R: Read, W: Write, F: Fn(&[u8], &mut [u8]) -> usize>(
 mod tests {
     use super::*;
     use std::io::{Cursor, ErrorKind};
-    use std::process::Abort;
 
     // An input that cannot be read.
     #[derive(Drop)]
@@ -89,28 +88,38 @@ mod tests {
         2
     }
 
-    // The text on an input.
-    fn says<R: Read + Drop>(rt: &impl Abort, mut input: R, text: &[u8]) -> io::Result<()> {
+    // The text on an input, in a buffer of 16 bytes, and how many bytes it has.
+    fn says<R: Read + Drop>(mut input: R) -> io::Result<([u8; 16], u64)> {
         let mut output = Cursor::new([0; 16]);
         answer(&mut input, &mut output, &mut [0; 2], first)?;
-        let end = output.position() as usize;
-        assert_eq!(rt; output.into_inner().get(..end), Some(text));
-        Ok(())
+        let end = output.position();
+        Ok((output.into_inner(), end))
     }
 
     #[test]
     fn answers_on_files(rt: HostRuntime) -> io::Result<()> {
         let none = b"".as_slice();
         let some = b"ab".as_slice();
-        says(&rt, none, b"\0-")?;
-        says(&rt, some, b"\0a")?;
-        says(&rt, some.chain(some), b"\0a")?;
-        says(&rt, io::repeat(b'a'), b"\x01a")
+        assert_eq!(rt; says(none)?, (*b"\0-\0\0\0\0\0\0\0\0\0\0\0\0\0\0", 2));
+        assert_eq!(rt; says(some)?, (*b"\0a\0\0\0\0\0\0\0\0\0\0\0\0\0\0", 2));
+        assert_eq!(rt;
+            says(some.chain(some))?,
+            (*b"\0a\0\0\0\0\0\0\0\0\0\0\0\0\0\0", 2)
+        );
+        assert_eq!(rt;
+            says(io::repeat(b'a'))?,
+            (*b"\x01a\0\0\0\0\0\0\0\0\0\0\0\0\0\0", 2)
+        );
+        Ok(())
     }
 
     #[test]
     fn unreadable(rt: HostRuntime) -> io::Result<()> {
-        says(&rt, Failing, b"unreadable\n")?;
-        says(&rt, b"ab".as_slice().chain(Failing), b"unreadable\n")
+        assert_eq!(rt; says(Failing)?, (*b"unreadable\n\0\0\0\0\0", 11));
+        assert_eq!(rt;
+            says(b"ab".as_slice().chain(Failing))?,
+            (*b"unreadable\n\0\0\0\0\0", 11)
+        );
+        Ok(())
     }
 }
