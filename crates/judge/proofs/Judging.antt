@@ -6,8 +6,9 @@ use native.Mathlib.Omega.{arith}
 use mathlib.Core.Path.{◌≡◌, sym, ap, ◌∙◌, subst}
 use mathlib.Core.Bool.{true, false, true≢false}
 use mathlib.Core.List.{List}
-use lib.ListN.{length, get_or, set, replicate, length-set, length-replicate}
+use lib.ListN.{length, get_or, set, take, replicate, length-take, length-set, length-replicate}
 use lib.Seq.{get_or-set_same, get_or-set_other}
+use Rattle.std.proofs.lemmas.List.{get_or-take}
 use lib.Dec.{eqb}
 use borrow.Author.Tests.{ltb-false, lt-ltb, le-ltb, eqb-true, eqb-false}
 use borrow.Author.Count.{below_more}
@@ -25,6 +26,7 @@ use Rattle.frame.specs.declared.Verdict.TheVariants.{Sound, Miss}
 use Rattle.frame.proofs.Work.{arrivals}
 use Rattle.frame.proofs.Verdicts.{misses, misses_is, foremost-named, meets_sound}
 use Rattle.latest.proofs.Walk.{job_at_turn}
+use Rattle.judge.proofs.ByTurn.{ranks_long}
 
 -- ---- latest finishes by turn
 
@@ -55,7 +57,7 @@ module _ (table : List ℕ) (k : ℕ) where
             (λ i. absurd (eqb-false _ _ s (ap (job_at_turn table) i ∙ sym e))));
       }
 
-  pub late_all : (n q : ℕ) (late : List ℕ) → n ≡ jobs table → n ≤ q → LateTo table k q late → Holds 64 late n (latest table k)
+  pub late_all : (n q : ℕ) (late : List ℕ) → n ≡ jobs table → n ≤ q → LateTo table k q late → Holds 64 late (jobs table) (latest table k)
   late_all n q late e l h =
       record {
         long = h.long;
@@ -133,3 +135,26 @@ module _ (table : List ℕ) (k : ℕ) where
   pub rank_job_below : (ranking : Ranking) (n r : ℕ) → ranking ≡ by_urgency table → n ≡ jobs table → n ≤ 64 → r < n → (get_or ranking.job r (the_job 0)).0 < n
   rank_job_below ranking n r e f l m =
       omega (arith, ap (λ (j : Job). j.0) (rank_job ranking n r e f l m), job_at_below (urgent table) (urgency_order table) (jobs table) r (omega arith))
+
+  -- the same, from the first n entries
+  pub taken_rank : (ranking : Ranking) (n r : ℕ) → n ≡ jobs table → r < length (take n ranking.job) → r < jobs table
+  taken_rank ranking n r f m = omega (arith, length-take n ranking.job)
+
+  pub taken_job : (ranking : Ranking) (n r : ℕ) → ranking ≡ by_urgency table → n ≡ jobs table → n ≤ 64 → r < length (take n ranking.job)
+      → get_or (take n ranking.job) r (the_job 0) ≡ the_job (of_rank r)
+  taken_job ranking n r e f l m =
+      let below : r < n = omega (arith, length-take n ranking.job) in
+      get_or-take n ranking.job r (the_job 0) below ∙ rank_job ranking n r e f l below
+
+  pub taken_job_below : (ranking : Ranking) (n r : ℕ) → ranking ≡ by_urgency table → n ≡ jobs table → n ≤ 64 → r < length (take n ranking.job)
+      → (get_or (take n ranking.job) r (the_job 0)).0 < n
+  taken_job_below ranking n r e f l m =
+      let below : r < n = omega (arith, length-take n ranking.job) in
+      rw (get_or-take n ranking.job r (the_job 0) below) (rank_job_below ranking n r e f l below)
+
+  pub taken_is_job : (ranking : Ranking) (n r : ℕ) → ranking ≡ by_urgency table → n ≡ jobs table → n ≤ 64 → r < length (take n ranking.job)
+      → (get_or (take n ranking.job) r (the_job 0)).0 < jobs table
+  taken_is_job ranking n r e f l m = omega (arith, taken_job_below ranking n r e f l m)
+
+  pub taken_all : (ranking : Ranking) (n r : ℕ) → ranking ≡ by_urgency table → n ≡ jobs table → n ≤ 64 → length (take n ranking.job) ≤ r → jobs table ≤ r
+  taken_all ranking n r e f l m = omega (arith, length-take n ranking.job, ap (λ (o : Ranking). length o.job) e, ranks_long table)
