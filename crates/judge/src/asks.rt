@@ -37,7 +37,12 @@ fn judge_frame(table: &Table, k: Faults, finishes: &mut [u32], pattern: &mut [u3
 }
 
 // Judge: the verdict, with the latest finishes and a pattern in the lent buffers; or the refusal.
-pub fn judge(table: &[u32], k: u32, finishes: &mut [u32], pattern: &mut [u32]) -> Result<Verdict, Refusal>
+pub fn judge(
+    table: &[u32],
+    k: u32,
+    finishes: &mut [u32],
+    pattern: &mut [u32],
+) -> Result<Verdict, Refusal>
     ensures { Judging table.now k finishes.old finishes.new pattern.old pattern.new result }
 {
     let table = Table::new(table)?;
