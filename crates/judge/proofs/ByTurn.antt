@@ -272,7 +272,7 @@ module _ (walk : Walk) where
   unfolding faults_at
   faults_off p o w l = rw o
 
-pub walks : {table value : List ℕ} {n k own : ℕ} {order : Arrivals} {ranking : Ranking} {rows : List Turn} → ByTurn table n order ranking rows → table ≡ value → k ≤ 8 → own < jobs value
+pub walks : {table value : List ℕ} {n k own : ℕ} {order : Arrivals} {by_rank : List Job} {rows : List Turn} → ByTurn table n order by_rank rows → table ≡ value → k ≤ 8 → own < jobs value
     → Walks table n k own rows
 walks {n = n} {own = own} b e few l =
     record {

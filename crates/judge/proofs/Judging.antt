@@ -128,33 +128,23 @@ module _ (table : List ℕ) (k : ℕ) where
       let found = subst (λ (j : ℕ). misses table k j ≡ false) (o.at_number job m) (met (position (urgent table) (jobs table) job) (omega (arith, o.number_below job m))) in
       ltb-false _ _ (sym (misses_is table k job) ∙ found))
 
-  -- the job of a rank, as the order that is handed over has it
-  pub rank_job : (ranking : Ranking) (n r : ℕ) → ranking ≡ by_urgency table → n ≡ jobs table → n ≤ 64 → r < n → get_or ranking.job r (the_job 0) ≡ the_job (of_rank r)
-  rank_job ranking n r e f l m = ap (λ (o : Ranking). get_or o.job r (the_job 0)) e ∙ job_of_rank table (omega arith) r (the_job 0) (omega arith)
+  -- the job of a rank, as the first n entries of the order have it
+  module _ (by_rank : List Job) (n r : ℕ) (is : by_rank ≡ (by_urgency table).job) (all : n ≡ jobs table) (few : n ≤ 64) where
+    long : length by_rank ≡ 64
+    long = ap length is ∙ ranks_long table
 
-  pub rank_job_below : (ranking : Ranking) (n r : ℕ) → ranking ≡ by_urgency table → n ≡ jobs table → n ≤ 64 → r < n → (get_or ranking.job r (the_job 0)).0 < n
-  rank_job_below ranking n r e f l m =
-      omega (arith, ap (λ (j : Job). j.0) (rank_job ranking n r e f l m), job_at_below (urgent table) (urgency_order table) (jobs table) r (omega arith))
+    module _ (l : r < length (take n by_rank)) where
+      pub taken_rank : r < jobs table
+      taken_rank = omega (arith, length-take n by_rank, long, all, few, l)
 
-  -- the same, from the first n entries
-  pub taken_rank : (ranking : Ranking) (n r : ℕ) → n ≡ jobs table → r < length (take n ranking.job) → r < jobs table
-  taken_rank ranking n r f m = omega (arith, length-take n ranking.job)
+      pub taken_job : get_or (take n by_rank) r (the_job 0) ≡ the_job (of_rank r)
+      taken_job =
+          get_or-take n by_rank r (the_job 0) (omega (arith, taken_rank))
+          ∙ ap (λ (xs : List Job). get_or xs r (the_job 0)) is
+          ∙ job_of_rank table (omega arith) r (the_job 0) taken_rank
 
-  pub taken_job : (ranking : Ranking) (n r : ℕ) → ranking ≡ by_urgency table → n ≡ jobs table → n ≤ 64 → r < length (take n ranking.job)
-      → get_or (take n ranking.job) r (the_job 0) ≡ the_job (of_rank r)
-  taken_job ranking n r e f l m =
-      let below : r < n = omega (arith, length-take n ranking.job) in
-      get_or-take n ranking.job r (the_job 0) below ∙ rank_job ranking n r e f l below
+      pub taken_is_job : (get_or (take n by_rank) r (the_job 0)).0 < jobs table
+      taken_is_job = omega (arith, ap (λ (j : Job). j.0) taken_job, job_at_below (urgent table) (urgency_order table) (jobs table) r taken_rank)
 
-  pub taken_job_below : (ranking : Ranking) (n r : ℕ) → ranking ≡ by_urgency table → n ≡ jobs table → n ≤ 64 → r < length (take n ranking.job)
-      → (get_or (take n ranking.job) r (the_job 0)).0 < n
-  taken_job_below ranking n r e f l m =
-      let below : r < n = omega (arith, length-take n ranking.job) in
-      rw (get_or-take n ranking.job r (the_job 0) below) (rank_job_below ranking n r e f l below)
-
-  pub taken_is_job : (ranking : Ranking) (n r : ℕ) → ranking ≡ by_urgency table → n ≡ jobs table → n ≤ 64 → r < length (take n ranking.job)
-      → (get_or (take n ranking.job) r (the_job 0)).0 < jobs table
-  taken_is_job ranking n r e f l m = omega (arith, taken_job_below ranking n r e f l m)
-
-  pub taken_all : (ranking : Ranking) (n r : ℕ) → ranking ≡ by_urgency table → n ≡ jobs table → n ≤ 64 → length (take n ranking.job) ≤ r → jobs table ≤ r
-  taken_all ranking n r e f l m = omega (arith, length-take n ranking.job, ap (λ (o : Ranking). length o.job) e, ranks_long table)
+    pub taken_all : length (take n by_rank) ≤ r → jobs table ≤ r
+    taken_all m = omega (arith, length-take n by_rank, long)

@@ -26,7 +26,7 @@ impl<'a> Turns<'a> {
         requires { Holds 64 late.now (jobs self.now) (latest self.now k.k) }
         ensures { result ≡ verdict self.now k.k }
     {
-        for job in &self.ranking.job[..self.n] {
+        for job in &self.by_rank[..self.n] {
             let end = late[job.0];
             if jobs::deadline(self.words, *job) < end {
                 return Verdict::Miss(*job, end);
