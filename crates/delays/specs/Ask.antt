@@ -2,8 +2,7 @@
 -- the final contents of the lent buffer.
 use Rattle.std.specs.Prelude.{ℕ, ◌≡◌, List, [], ◌∷◌, length}
 use Rattle.jobs.specs.Table.{jobs}
-use Rattle.jobs.specs.Refusals.{first, cut_row, too_many_jobs, out_of_range, too_many_faults}
-use Rattle.jobs.specs.declared.Check.{Check}
+use Rattle.jobs.specs.Refusals.{Check, first, cut_row, too_many_jobs, out_of_range, too_many_faults}
 use Rattle.frame.specs.Delays.{delay}
 use Rattle.schedule.specs.Asks.{short_buffer, unless, fill}
 

@@ -7,85 +7,57 @@
 
 #![tactic(auto)]
 
-mod finishing;
 mod row;
 
-ghost use Rattle.std.specs.Prelude.{◌≡◌, ◌<◌, ◌≤◌, length};
+ghost use Rattle.std.specs.Prelude.{◌≡◌, ◌≤◌, length};
 ghost use Rattle.jobs.specs.Table.{jobs};
-ghost use Rattle.jobs.specs.Refusals.{first, table_refusals};
-ghost use Rattle.jobs.specs.declared.Check.TheVariants.{Fine};
+ghost use Rattle.jobs.specs.Refusals.{fine};
 ghost use Rattle.frame.specs.Schedule.{free_slots};
 ghost use Rattle.frame.specs.Delays.{delay};
-ghost use Rattle.schedule.specs.Asks.{free_slots_refusals, fill};
-ghost use Rattle.delays.specs.Ask.{delays_refusals, Delayed};
+ghost use Rattle.schedule.specs.Asks.{too_late, fill};
+ghost use Rattle.delays.specs.Ask.{Delayed};
 
-use crate::finishing::by_finish;
 use crate::row::next_row;
-use jobs::{Check, check_faults, check_table, first_of, given, jobs, recovery};
-use schedule::{Free, fault_free, free_slots};
+use jobs::{Faults, Reason, Refusal, Table, given, in_order, recovery};
+use schedule::{fault_free, free_slots};
 
-// The refusals of delays, in their order: 1, 2, 3, 4, 5.
-fn check_delays(table: &[u32], k: u32, room: usize) -> Check
-    ensures { result ≡ first (delays_refusals table.now k room) }
-{
-    let n = jobs(table);
-    let faults = check_faults(k);
-    let short = given(room < n, 5, n);
-    first_of(check_table(table), first_of(faults, short))
-}
-
-// The free slots between two finishes. No finish is so late that free slots would refuse it.
-fn free_between(table: &[u32], a: u32, b: u32) -> u32
-    requires { first (free_slots_refusals table.now a b) ≡ Fine }
+// The free slots between two times that are not too late to be asked of.
+fn free_between(table: &Table, a: u32, b: u32) -> u32
+    requires { too_late a b ≡ fine }
     ensures { result ≡ free_slots table.now a b }
 {
-    match free_slots(table, a, b) {
-        Free::Slots(count) => count,
-        Free::Refused {
-            number: _,
-            place: _,
-        } => 0,
-    }
+    free_slots(table.words(), a, b).unwrap()
 }
 
 // The walk over the finishes in their order: each row is made from the last, and its entry for k is the delay of the job that finishes there.
-fn fill_delays(table: &[u32], k: usize, delays: &mut [u32])
-    requires table_value { first (table_refusals table.now) ≡ Fine }
-    requires k_bound { k < 9 }
-    requires table_in_bounds { jobs table.now ≤ length delays.old }
-    ensures { delays.new ≡ fill (jobs table.now) (delay table.now k) delays.old }
+fn fill_delays(table: &Table, faults: Faults, delays: &mut [u32])
+    requires { jobs table.now ≤ length delays.old }
+    ensures { delays.new ≡ fill (jobs table.now) (delay table.now faults.k) delays.old }
 {
-    let n = jobs(table);
-    let finishes = fault_free(table);
-    let order = by_finish(table, &finishes);
+    let words = table.words();
+    let n = table.jobs();
+    let finishes = fault_free(words);
+    let order = in_order(&finishes[..n]);
     let mut row = [0; 9];
-    let mut last: u32 = 0;
-    let mut p = 0;
-    while p < n {
-        let job = order[p];
-        let at = job.0;
-        let end = finishes[at];
+    let mut last = 0;
+    for &job in &order[..n] {
+        let end = finishes[job.0];
         let free = free_between(table, last, end);
-        row = next_row(row, free, recovery(table, job));
-        delays[at] = row[k];
+        row = next_row(row, free, recovery(words, job));
+        delays[job.0] = row[faults.k];
         last = end;
-        p += 1;
     }
 }
 
-// Delays: for a table and k, taking all its jobs, the delay for w = k at each job's fault-free finish, in job order, or the refusal.
-pub fn delays(table: &[u32], k: u32, delays: &mut [u32]) -> Check
+// Delays: for a table and k, taking all its jobs, the delay for w = k at each job's fault-free finish, in job order, or the refusal: of 1, 2, 3, 4 and 5,
+// in this order.
+pub fn delays(table: &[u32], k: u32, delays: &mut [u32]) -> Result<(), Refusal>
     ensures { Delayed table.now k delays.old delays.new result }
 {
-    let answer = check_delays(table, k, delays.len());
-    match answer {
-        Check::Fine => {
-            fill_delays(table, k as usize, delays);
-            Check::Fine
-        }
-        Check::Refused { number, place } => Check::Refused {
-            number: number,
-            place: place,
-        },
-    }
+    let table = Table::new(table)?;
+    let n = table.jobs();
+    let faults = Faults::try_from(k)?;
+    given(delays.len() < n, Reason::ShortBuffer, n)?;
+    fill_delays(&table, faults, delays);
+    Ok(())
 }

@@ -8,12 +8,14 @@ use native.Mathlib.Omega.{arith}
 use mathlib.Core.Path.{◌≡◌, refl, sym, ap, ◌∙◌}
 use mathlib.Core.Logic.{⊎_elim}
 use mathlib.Core.Bool.{Bool, true, false, cond, ◌&&◌, or-true, true≢false, false≢true}
-use mathlib.Core.List.{[], ◌∷◌}
-use lib.ListN.{length, get_or, length-append, get_or-append}
+use mathlib.Core.List.{List, [], ◌∷◌}
+use lib.ListN.{length, get_or, take, length-append, get_or-append}
 use lib.Seq.{get_or_at}
 use lib.Dec.{ltb, eqb}
 use mir.Val.{bool_byte}
 use borrow.Author.Tests.{ltb-true, ltb-false, eqb-true, eqb-false, eq-eqb, ne_eqb}
+use Rattle.std.specs.List.{count_by}
+use Rattle.std.proofs.lemmas.List.Sums.{count_by_more_yes, count_by_more_no}
 use Rattle.jobs.specs.Below.{total, count, greatest, some, least, listed}
 
 -- ---- tests
@@ -201,6 +203,17 @@ count_positive n p h =
 pub count_at : (n : ℕ) (p : ℕ → Bool) (i : ℕ) → i < n → p i ≡ true → 0 < count n p
 count_at n p i l e =
     omega (arith, count_less n (λ j. false) p i l refl e (λ j m f. absurd (false≢true f)))
+
+-- how many items of a list have p, by their indices
+pub counted_by : (p : ℕ → Bool) (xs : List ℕ) (n : ℕ) → n ≤ length xs → count_by p (take n xs) ≡ count n (λ i. p (get_or xs i 0))
+unfolding count total
+counted_by p xs zero h = refl
+counted_by p xs (suc n) h =
+    let inside : n < length xs = omega arith in
+    let so_far = counted_by p xs n (omega arith) in
+    by_cases (p (get_or xs n 0))
+    (λ e. (rw add-one at (count_by_more_yes p xs n 0 inside e)) ∙ rw e (ap (λ m. m + 1) so_far))
+    (λ e. (rw add-one at (count_by_more_no p xs n 0 inside e)) ∙ so_far ∙ rw e (omega arith))
 
 -- ---- all different
 

@@ -1,5 +1,5 @@
--- What an array holds, and how its words are compared. The private functions compute by it; no promise of an ask rests on it.
-use Rattle.std.specs.Prelude.{ℕ, ◌^◌, ◌<◌, ◌≡◌, Bool, cond, List, length, get_or, ltb, eqb}
+-- What an array holds. The private functions compute by it; no promise of an ask rests on it.
+use Rattle.std.specs.Prelude.{ℕ, ◌^◌, ◌<◌, ◌≡◌, List, length, get_or}
 
 -- An array of `size` words, the first n of which hold these values.
 pub record Holds (size : ℕ) (array : List ℕ) (n : ℕ) (values : ℕ → ℕ) : Type 0 where
@@ -9,10 +9,6 @@ pub record Holds (size : ℕ) (array : List ℕ) (n : ℕ) (values : ℕ → ℕ
 -- The values that an array holds.
 abbrev pub values : List ℕ → ℕ → ℕ
 values array i = get_or array i 0
-
--- Whether a word equals another, or is less than it.
-abbrev pub compares : Bool → ℕ → ℕ → Bool
-compares equal word own = cond equal (eqb word own) (ltb word own)
 
 -- The nine values of a row fit 32 bits.
 pub record Fit (row : ℕ → ℕ) : Type 0 where

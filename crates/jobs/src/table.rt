@@ -7,6 +7,7 @@ use crate::{Refusal, check_table, jobs};
 use std::marker::Model;
 
 // A table that is not refused: its words.
+#[derive(Drop)]
 pub struct Table<'a> {
     words: &'a [u32],
 }

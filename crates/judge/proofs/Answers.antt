@@ -8,13 +8,14 @@ use mathlib.Core.Path.{◌≡◌, refl, sym, ap, ◌∙◌}
 use mathlib.Core.List.{List, [], ◌∷◌, ◌++◌}
 use lib.ListN.{length, get_or, drop}
 use borrow.Author.Tests.{ltb-true, ltb-false, not-false}
+use Rattle.std.specs.Prelude.{Result, Ok, Err}
 use Rattle.jobs.specs.Below.{listed}
 use Rattle.jobs.specs.Table.{jobs}
-use Rattle.jobs.specs.Refusals.{after, first, table_refusals, too_many_faults}
+use Rattle.jobs.specs.Refusals.{Check, fine, after, first, table_refusals, too_many_faults}
 use Rattle.jobs.specs.Arrays.{values}
 use Rattle.jobs.specs.declared.Job.{Job}
-use Rattle.jobs.specs.declared.Check.{Check}
-use Rattle.jobs.specs.declared.Check.TheVariants.{Fine, Refused}
+use Rattle.jobs.specs.declared.refusal.Reason.TheVariants.{TooManyFaults, ShortBuffer, WrongPattern, NoSuchJob}
+use Rattle.jobs.specs.declared.refusal.Refusal.{Refusal}
 use Rattle.jobs.proofs.Below.{length-listed, get_or-listed}
 use Rattle.jobs.proofs.Refusals.{good, not-given, after_fine, after_last, first-append}
 use Rattle.frame.specs.Latest.{latest, verdict}
@@ -25,8 +26,6 @@ use Rattle.schedule.specs.Asks.{short_buffer, fill}
 use Rattle.latest.proofs.Latest.{handed_reaches}
 use Rattle.judge.specs.Notes.{Unwound, CountsFor}
 use Rattle.judge.specs.Asks.{short_pattern, no_such_job, judge_refusals, pattern_refusals, Unless, Handed, HandedFor, Judging, Reaching}
-use Rattle.judge.specs.declared.Judged.{Judged}
-use Rattle.judge.specs.declared.Judged.TheVariants.{With}
 use Rattle.judge.proofs.Unwinding.{zeros_at}
 
 -- ---- the refusals
@@ -46,54 +45,54 @@ pattern_refusals_lem table k job pattern = three_more table (too_many_faults k) 
 
 -- what is not refused
 pub record Accepted (table : List ℕ) (k finishes pattern : ℕ) : Type 0 where
-  pub fine : first (table_refusals table) ≡ Fine
+  pub good : first (table_refusals table) ≡ fine
   pub few : k < 9
   pub room : jobs table ≤ finishes
   pub space : jobs table ≤ pattern
 
-pub judge_accepts : (table : List ℕ) (k finishes pattern : ℕ) → first (judge_refusals table k finishes pattern) ≡ Fine → Accepted table k finishes pattern
-judge_accepts table k finishes pattern fine =
-    let a = after_fine (first (table_refusals table)) _ (sym (judge_refusals_lem table k finishes pattern) ∙ fine) in
+pub judge_accepts : (table : List ℕ) (k finishes pattern : ℕ) → first (judge_refusals table k finishes pattern) ≡ fine → Accepted table k finishes pattern
+judge_accepts table k finishes pattern none =
+    let a = after_fine (first (table_refusals table)) _ (sym (judge_refusals_lem table k finishes pattern) ∙ none) in
     let b = after_fine (too_many_faults k) _ a.1 in
     let c = after_fine (short_buffer table finishes) _ b.1 in
-    let few : k ≤ 8 = ltb-false _ _ (not-given _ 4 0 b.0) in
+    let few : k ≤ 8 = ltb-false _ _ (not-given _ TooManyFaults 0 b.0) in
     record {
-      fine = a.0;
+      good = a.0;
       few = omega arith;
-      room = ltb-false _ _ (not-given _ 5 (jobs table) c.0);
-      space = ltb-false _ _ (not-given _ 6 (jobs table) c.1);
+      room = ltb-false _ _ (not-given _ ShortBuffer (jobs table) c.0);
+      space = ltb-false _ _ (not-given _ WrongPattern (jobs table) c.1);
     }
 
 pub record AcceptedOne (table : List ℕ) (k job pattern : ℕ) : Type 0 where
-  pub fine : first (table_refusals table) ≡ Fine
+  pub good : first (table_refusals table) ≡ fine
   pub few : k < 9
   pub is_job : job < jobs table
   pub space : jobs table ≤ pattern
 
-pub pattern_accepts : (table : List ℕ) (k job pattern : ℕ) → first (pattern_refusals table k job pattern) ≡ Fine → AcceptedOne table k job pattern
-pattern_accepts table k job pattern fine =
-    let a = after_fine (first (table_refusals table)) _ (sym (pattern_refusals_lem table k job pattern) ∙ fine) in
+pub pattern_accepts : (table : List ℕ) (k job pattern : ℕ) → first (pattern_refusals table k job pattern) ≡ fine → AcceptedOne table k job pattern
+pattern_accepts table k job pattern none =
+    let a = after_fine (first (table_refusals table)) _ (sym (pattern_refusals_lem table k job pattern) ∙ none) in
     let b = after_fine (too_many_faults k) _ a.1 in
     let c = after_fine (no_such_job table job) _ b.1 in
-    let few : k ≤ 8 = ltb-false _ _ (not-given _ 4 0 b.0) in
+    let few : k ≤ 8 = ltb-false _ _ (not-given _ TooManyFaults 0 b.0) in
     record {
-      fine = a.0;
+      good = a.0;
       few = omega arith;
-      is_job = ltb-true _ _ (not-false _ (not-given _ 8 0 c.0));
-      space = ltb-false _ _ (not-given _ 6 (jobs table) c.1);
+      is_job = ltb-true _ _ (not-false _ (not-given _ NoSuchJob 0 c.0));
+      space = ltb-false _ _ (not-given _ WrongPattern (jobs table) c.1);
     }
 
 -- a table that is not refused has at most 64 jobs
-pub few_jobs : (table : List ℕ) (n : ℕ) → first (table_refusals table) ≡ Fine → n ≡ jobs table → n ≤ 64
-few_jobs table n fine e = omega (arith, (good table fine).few_jobs)
+pub few_jobs : (table : List ℕ) (n : ℕ) → first (table_refusals table) ≡ fine → n ≡ jobs table → n ≤ 64
+few_jobs table n is_good e = omega (arith, (good table is_good).few_jobs)
 
 -- ---- a pattern that is handed out
 
-pub counts_handed : (table : List ℕ) (k job : ℕ) (counts before after : List ℕ) → first (table_refusals table) ≡ Fine → job < jobs table → Unwound table k job counts
+pub counts_handed : (table : List ℕ) (k job : ℕ) (counts before after : List ℕ) → first (table_refusals table) ≡ fine → job < jobs table → Unwound table k job counts
     → after ≡ fill (jobs table) (values counts) before → Handed table k job before after
 unfolding fill
-counts_handed table k job counts before after fine l u f =
-    let handed = handed_reaches table k job (good table fine) l (listed (jobs table) (values counts)) (length-listed (jobs table) (values counts))
+counts_handed table k job counts before after is_good l u f =
+    let handed = handed_reaches table k job (good table is_good) l (listed (jobs table) (values counts)) (length-listed (jobs table) (values counts))
     (λ i m. get_or-listed (jobs table) (values counts) 0 i m ∙ u.each i m) in
     record { pattern = listed (jobs table) (values counts); at_most = handed.0; reaches = handed.1; fills = f }
 
@@ -110,37 +109,37 @@ pub fill_same : (n : ℕ) (f g : ℕ → ℕ) (buffer : List ℕ) → ((i : ℕ)
 unfolding fill
 fill_same n f g buffer h = ap (λ xs. xs ++ drop n buffer) (listed_same n f g h)
 
-pub handed_for : (table : List ℕ) (k : ℕ) (v : Verdict) (counts before after : List ℕ) → first (table_refusals table) ≡ Fine → v ≡ verdict table k → CountsFor table k v counts
+pub handed_for : (table : List ℕ) (k : ℕ) (v : Verdict) (counts before after : List ℕ) → first (table_refusals table) ≡ fine → v ≡ verdict table k → CountsFor table k v counts
     → after ≡ fill (jobs table) (values counts) before → HandedFor table k v before after
-handed_for table k Sound counts before after fine e c f =
+handed_for table k Sound counts before after is_good e c f =
     f ∙ fill_same (jobs table) (values counts) (λ job. 0) before (λ i l. ap (λ (xs : List ℕ). get_or xs i 0) c ∙ zeros_at 64 i)
-handed_for table k (Miss job time) counts before after fine e c f =
-    counts_handed table k job.0 counts before after fine (named_below table k (Miss job time) job time e refl) c f
+handed_for table k (Miss job time) counts before after is_good e c f =
+    counts_handed table k job.0 counts before after is_good (named_below table k (Miss job time) job time e refl) c f
 
 -- ---- the promises
 
 module _ (table : List ℕ) (k : ℕ) (finishes pattern : List ℕ) where
-  pub judging_fine : (finishes' pattern' : List ℕ) (v : Verdict) → first (judge_refusals table k (length finishes) (length pattern)) ≡ Fine → v ≡ verdict table k
-      → finishes' ≡ fill (jobs table) (latest table k) finishes → HandedFor table k v pattern pattern' → Judging table k finishes finishes' pattern pattern' (With v)
-  judging_fine finishes' pattern' v fine e f h =
-      record { answers = rw fine (ap With e); fills = rw fine f; hands = rw (fine, ← e) h }
+  pub judging_fine : (finishes' pattern' : List ℕ) (v : Verdict) → first (judge_refusals table k (length finishes) (length pattern)) ≡ fine → v ≡ verdict table k
+      → finishes' ≡ fill (jobs table) (latest table k) finishes → HandedFor table k v pattern pattern' → Judging table k finishes finishes' pattern pattern' (Ok v)
+  judging_fine finishes' pattern' v none e f h =
+      record { answers = rw none (ap Ok e); fills = rw none f; hands = rw (none, ← e) h }
 
-  pub judging_refused : (number place : ℕ) → first (judge_refusals table k (length finishes) (length pattern)) ≡ Refused number place
-      → Judging table k finishes finishes pattern pattern (Judged.Refused number place)
-  judging_refused number place e = record { answers = rw e; fills = rw e; hands = rw e refl }
+  pub judging_refused : (refusal : Refusal) → first (judge_refusals table k (length finishes) (length pattern)) ≡ Err refusal
+      → Judging table k finishes finishes pattern pattern (Err refusal)
+  judging_refused refusal e = record { answers = rw e; fills = rw e; hands = rw e refl }
 
 module _ (table : List ℕ) (k job : ℕ) (pattern : List ℕ) where
-  pub reaching_fine : (pattern' : List ℕ) → first (pattern_refusals table k job (length pattern)) ≡ Fine → Handed table k job pattern pattern'
-      → Reaching table k job pattern pattern' Fine
-  reaching_fine pattern' fine h = record { answers = sym fine; hands = rw fine h }
+  pub reaching_fine : (pattern' : List ℕ) → first (pattern_refusals table k job (length pattern)) ≡ fine → Handed table k job pattern pattern'
+      → Reaching table k job pattern pattern' fine
+  reaching_fine pattern' none h = record { answers = sym none; hands = rw none h }
 
-  pub reaching_refused : (number place : ℕ) → first (pattern_refusals table k job (length pattern)) ≡ Refused number place
-      → Reaching table k job pattern pattern (Refused number place)
-  reaching_refused number place e = record { answers = sym e; hands = rw e refl }
+  pub reaching_refused : (refusal : Refusal) → first (pattern_refusals table k job (length pattern)) ≡ Err refusal
+      → Reaching table k job pattern pattern (Err refusal)
+  reaching_refused refusal e = record { answers = sym e; hands = rw e refl }
 
 -- ---- two results are equal
 
-pub judge_same_answer : (table : List ℕ) (k : ℕ) (finishes pattern f p g q : List ℕ) (a b : Judged)
+pub judge_same_answer : (table : List ℕ) (k : ℕ) (finishes pattern f p g q : List ℕ) (a b : Result Verdict Refusal)
     → Judging table k finishes f pattern p a → Judging table k finishes g pattern q b → (a ≡ b) × (f ≡ g)
 judge_same_answer table k finishes pattern f p g q a b x y = (x.answers ∙ sym y.answers, x.fills ∙ sym y.fills)
 
@@ -151,21 +150,21 @@ pattern_same_answer table k job pattern p q a b x y = x.answers ∙ sym y.answer
 -- a refusal leaves the buffer, and sound fills it with zeros
 unless_same : (table : List ℕ) (k : ℕ) (v : Verdict) (c : Check) (before p q : List ℕ) → v ≡ Sound
     → Unless c (HandedFor table k v before p) (p ≡ before) → Unless c (HandedFor table k v before q) (q ≡ before) → p ≡ q
-unless_same table k v Fine before p q e x y = (rw e at x) ∙ sym (rw e at y)
-unless_same table k v (Refused number place) before p q e x y = x ∙ sym y
+unless_same table k v (Ok tt) before p q e x y = (rw e at x) ∙ sym (rw e at y)
+unless_same table k v (Err refusal) before p q e x y = x ∙ sym y
 
-pub judge_same_pattern : (table : List ℕ) (k : ℕ) (finishes pattern f p g q : List ℕ) (a b : Judged) → verdict table k ≡ Sound
+pub judge_same_pattern : (table : List ℕ) (k : ℕ) (finishes pattern f p g q : List ℕ) (a b : Result Verdict Refusal) → verdict table k ≡ Sound
     → Judging table k finishes f pattern p a → Judging table k finishes g pattern q b → p ≡ q
 judge_same_pattern table k finishes pattern f p g q a b e x y =
     unless_same table k (verdict table k) (first (judge_refusals table k (length finishes) (length pattern))) pattern p q e x.hands y.hands
 
 -- under a refusal the pattern's buffer is as it was
-pub judge_keeps_pattern : (table : List ℕ) (k : ℕ) (finishes pattern f p : List ℕ) (number place : ℕ)
-    → first (judge_refusals table k (length finishes) (length pattern)) ≡ Refused number place
-    → (a : Judged) → Judging table k finishes f pattern p a → p ≡ pattern
-judge_keeps_pattern table k finishes pattern f p number place e a x = rw e at x.hands
+pub judge_keeps_pattern : (table : List ℕ) (k : ℕ) (finishes pattern f p : List ℕ) (refusal : Refusal)
+    → first (judge_refusals table k (length finishes) (length pattern)) ≡ Err refusal
+    → (a : Result Verdict Refusal) → Judging table k finishes f pattern p a → p ≡ pattern
+judge_keeps_pattern table k finishes pattern f p refusal e a x = rw e at x.hands
 
-pub pattern_keeps_pattern : (table : List ℕ) (k job : ℕ) (pattern p : List ℕ) (number place : ℕ)
-    → first (pattern_refusals table k job (length pattern)) ≡ Refused number place
+pub pattern_keeps_pattern : (table : List ℕ) (k job : ℕ) (pattern p : List ℕ) (refusal : Refusal)
+    → first (pattern_refusals table k job (length pattern)) ≡ Err refusal
     → (a : Check) → Reaching table k job pattern p a → p ≡ pattern
-pattern_keeps_pattern table k job pattern p number place e a x = rw e at x.hands
+pattern_keeps_pattern table k job pattern p refusal e a x = rw e at x.hands

@@ -225,7 +225,7 @@ module _ {table : List ℕ} {n k own : ℕ} {turns : List ℕ} (a : Walks table 
   l = a.own_below
 
   g : Good table
-  g = good table t.fine
+  g = good table t.good
 
   -- the judged job and its walk
   abbrev pub judged : ℕ

@@ -2,10 +2,9 @@
 ghost use Rattle.std.specs.Prelude.{◌≡◌, ◌<◌, ◌≤◌, length};
 ghost use Rattle.std.proofs.Math.IntN.{sub_ℕ};
 ghost use Rattle.jobs.specs.Table.{jobs, deadline};
-ghost use Rattle.jobs.specs.Refusals.{first, table_refusals};
+ghost use Rattle.jobs.specs.Refusals.{fine, first, table_refusals};
 ghost use Rattle.jobs.specs.Orders.{by_ready};
 ghost use Rattle.jobs.specs.Arrays.{values};
-ghost use Rattle.jobs.specs.declared.Check.TheVariants.{Fine};
 ghost use Rattle.frame.specs.Latest.{latest, verdict as verdict_of};
 ghost use Rattle.schedule.specs.Asks.{fill};
 ghost use Rattle.latest.proofs.Walk.{job_at_turn};
@@ -13,35 +12,32 @@ ghost use Rattle.judge.specs.Turns.{Turns};
 ghost use Rattle.judge.specs.Notes.{Unwound, CountsFor};
 ghost use Rattle.judge.specs.Asks.{judge_refusals, pattern_refusals, Handed, HandedFor, Judging, Reaching};
 
-use super::Judged;
 use crate::late::{all_latest, verdict_on};
 use crate::trail::{trail_of, unwound};
 use crate::turns::by_turn;
 use frame::Verdict;
-use jobs::{Arrivals, Check, Job, first_of, given};
+use jobs::{Arrivals, Job, Reason, Refusal, given};
 
 // The refusals of judge, in their order: 1, 2, 3, 4, 5, 6.
-fn check_judge(table: &[u32], k: u32, finishes: usize, pattern: usize) -> Check
+fn check_judge(table: &[u32], k: u32, finishes: usize, pattern: usize) -> Result<(), Refusal>
     ensures { result ≡ first (judge_refusals table.now k finishes pattern) }
 {
     let n = jobs::jobs(table);
-    let last = first_of(given(finishes < n, 5, n), given(pattern < n, 6, n));
-    first_of(
-        jobs::check_table(table),
-        first_of(jobs::check_faults(k), last),
-    )
+    jobs::check_table(table)?;
+    jobs::check_faults(k)?;
+    given(finishes < n, Reason::ShortBuffer, n)?;
+    given(pattern < n, Reason::WrongPattern, n)
 }
 
 // The refusals of the pattern of one job, in their order: 1, 2, 3, 4, 8, 6.
-fn check_one(table: &[u32], k: u32, job: u32, pattern: usize) -> Check
+fn check_one(table: &[u32], k: u32, job: u32, pattern: usize) -> Result<(), Refusal>
     ensures { result ≡ first (pattern_refusals table.now k job pattern) }
 {
     let n = jobs::jobs(table);
-    let last = first_of(given(!((job as usize) < n), 8, 0), given(pattern < n, 6, n));
-    first_of(
-        jobs::check_table(table),
-        first_of(jobs::check_faults(k), last),
-    )
+    jobs::check_table(table)?;
+    jobs::check_faults(k)?;
+    given(!((job as usize) < n), Reason::NoSuchJob, 0)?;
+    given(pattern < n, Reason::WrongPattern, n)
 }
 
 // Fills the first n words of a lent buffer.
@@ -114,7 +110,7 @@ fn counts_for<'a>(
 
 // Judges a frame that is not refused.
 fn judge_frame(table: &[u32], k: usize, finishes: &mut [u32], pattern: &mut [u32]) -> Verdict
-    requires table_value { first (table_refusals table.now) ≡ Fine }
+    requires table_value { first (table_refusals table.now) ≡ fine }
     requires k_bound { (k < 9) × (jobs table.now ≤ length finishes.old) × (jobs table.now ≤ length pattern.old) }
     ensures value { result ≡ verdict_of table.now k }
     ensures finishes_after { finishes.new ≡ fill (jobs table.now) (latest table.now k) finishes.old }
@@ -134,22 +130,21 @@ fn judge_frame(table: &[u32], k: usize, finishes: &mut [u32], pattern: &mut [u32
 }
 
 // Judge: the verdict, with the latest finishes and a pattern in the lent buffers; or the refusal.
-pub fn judge(table: &[u32], k: u32, finishes: &mut [u32], pattern: &mut [u32]) -> Judged
+pub fn judge(
+    table: &[u32],
+    k: u32,
+    finishes: &mut [u32],
+    pattern: &mut [u32],
+) -> Result<Verdict, Refusal>
     ensures { Judging table.now k finishes.old finishes.new pattern.old pattern.new result }
 {
-    let check = check_judge(table, k, finishes.len(), pattern.len());
-    match check {
-        Check::Fine => Judged::With(judge_frame(table, k as usize, finishes, pattern)),
-        Check::Refused { number, place } => Judged::Refused {
-            number: number,
-            place: place,
-        },
-    }
+    check_judge(table, k, finishes.len(), pattern.len())?;
+    Ok(judge_frame(table, k as usize, finishes, pattern))
 }
 
 // The pattern of one job of a frame that is not refused.
 fn hand_out(table: &[u32], k: usize, job: Job, pattern: &mut [u32])
-    requires table_value { first (table_refusals table.now) ≡ Fine }
+    requires table_value { first (table_refusals table.now) ≡ fine }
     requires k_bound { (k < 9) × (job.0 < jobs table.now) × (jobs table.now ≤ length pattern.old) }
     ensures { Handed table.now k job.0 pattern.old pattern.new }
 {
@@ -163,20 +158,12 @@ fn hand_out(table: &[u32], k: usize, job: Job, pattern: &mut [u32])
 }
 
 // Pattern of one job: a pattern that reaches that job's latest finish; or the refusal.
-pub fn pattern_of(table: &[u32], k: u32, job: u32, pattern: &mut [u32]) -> Check
+pub fn pattern_of(table: &[u32], k: u32, job: u32, pattern: &mut [u32]) -> Result<(), Refusal>
     ensures { Reaching table.now k job pattern.old pattern.new result }
 {
-    let check = check_one(table, k, job, pattern.len());
-    match check {
-        Check::Fine => {
-            hand_out(table, k as usize, Job(job as usize), pattern);
-            Check::Fine
-        }
-        Check::Refused { number, place } => Check::Refused {
-            number: number,
-            place: place,
-        },
-    }
+    check_one(table, k, job, pattern.len())?;
+    hand_out(table, k as usize, Job(job as usize), pattern);
+    Ok(())
 }
 
 // A job's margin: its deadline minus its latest finish, signed.

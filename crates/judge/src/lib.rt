@@ -2,8 +2,6 @@
 
 #![tactic(auto)]
 
-use frame::Verdict;
-
 mod asks;
 mod late;
 mod row;
@@ -11,10 +9,3 @@ mod trail;
 mod turns;
 
 pub use asks::{judge, margin, pattern_of};
-
-// What the judge answers: the verdict, or the refusal.
-#[derive(Clone, Copy)]
-pub enum Judged {
-    With(Verdict),
-    Refused { number: u32, place: usize },
-}

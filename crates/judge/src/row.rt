@@ -3,8 +3,6 @@ ghost use Rattle.std.specs.Prelude.{◌≡◌, ◌<◌, ◌^◌};
 ghost use Rattle.jobs.specs.Arrays.{Holds, Fit, values};
 ghost use Rattle.latest.proofs.Steps.{again, enters, spread};
 
-use jobs::larger;
-
 // One fault more, that costs `recovery`; an end of 0 is over and stays so.
 pub(crate) fn once_more(recovery: u32, end: u32) -> u32
     requires { again recovery end < 2 ^ 32 }
@@ -24,7 +22,7 @@ pub(crate) fn enter(past: bool, ready: u32, run: u32, end: u32) -> u32
         }
         return end + run;
     }
-    larger(end, ready) + run
+    end.max(ready) + run
 }
 
 // Each end of the row, after the job without fault.
@@ -50,7 +48,7 @@ pub(crate) fn spread(first: [u32; 9], recovery: u32) -> [u32; 9]
     next[0] = first[0];
     let mut w = 1;
     while w < 9 {
-        next[w] = larger(first[w], once_more(recovery, next[w - 1]));
+        next[w] = first[w].max(once_more(recovery, next[w - 1]));
         w += 1;
     }
     next

@@ -15,7 +15,7 @@ pub counts_of-counts-requires : goal.counts_of-counts-requires
 counts_of-counts-requires c =
     record {
       order_value = c.by_ready-order.ensures;
-      turns = record { fine = c.requires.table_value; all = c.jobs-n.ensures; few = few_jobs _ _ c.requires.table_value c.jobs-n.ensures; holds = c.by_turn.ensures };
+      turns = record { good = c.requires.table_value; all = c.jobs-n.ensures; few = few_jobs _ _ c.requires.table_value c.jobs-n.ensures; holds = c.by_turn.ensures };
       k_bound = (c.requires.k_bound.0, lt_of_lt_of_le c.requires.k_bound.1 (le_of_eq (sym c.jobs-n.ensures)));
     }
 

@@ -15,7 +15,7 @@ by_turn-requires c =
 
 pub all_latest-late-requires : goal.all_latest-late-requires
 all_latest-late-requires c =
-    record { order_value = c.by_ready-order.ensures; turns = record { fine = c.requires.table_value; all = c.jobs-n.ensures; few = few_jobs _ _ c.requires.table_value c.jobs-n.ensures; holds = c.by_turn.ensures }; k_bound = c.requires.k_bound.0 }
+    record { order_value = c.by_ready-order.ensures; turns = record { good = c.requires.table_value; all = c.jobs-n.ensures; few = few_jobs _ _ c.requires.table_value c.jobs-n.ensures; holds = c.by_turn.ensures }; k_bound = c.requires.k_bound.0 }
 
 pub verdict_on-verdict-requires : goal.verdict_on-verdict-requires
 verdict_on-verdict-requires c =
@@ -23,7 +23,7 @@ verdict_on-verdict-requires c =
 
 pub counts_for-counts-requires : goal.counts_for-counts-requires
 counts_for-counts-requires c =
-    record { order_value = c.by_ready-order.ensures; turns = record { fine = c.requires.table_value; all = c.jobs-n.ensures; few = few_jobs _ _ c.requires.table_value c.jobs-n.ensures; holds = c.by_turn.ensures }; k_bound = (c.requires.k_bound.0, c.verdict_on-verdict.ensures) }
+    record { order_value = c.by_ready-order.ensures; turns = record { good = c.requires.table_value; all = c.jobs-n.ensures; few = few_jobs _ _ c.requires.table_value c.jobs-n.ensures; holds = c.by_turn.ensures }; k_bound = (c.requires.k_bound.0, c.verdict_on-verdict.ensures) }
 
 pub fill_from-requires : goal.fill_from-requires
 fill_from-requires c =

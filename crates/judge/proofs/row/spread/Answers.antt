@@ -48,8 +48,8 @@ loop-w-preserved c =
     let first = values a.first in (
       le-add_left 1 w,
       add-one-le c.loop-w-test.true,
-      holds_more 9 c.loop-w.next w (spread a.recovery first) c.larger.result c.loop-w-test.true c.loop-w.invariant.2
-          (c.larger.ensures
+      holds_more 9 c.loop-w.next w (spread a.recovery first) c.max.result c.loop-w-test.true c.loop-w.invariant.2
+          (c.max.ensures
           ∙ ap (max (first w)) (c.once_more.ensures ∙ ap (again a.recovery) (c.loop-w.invariant.2.each (w - 1) (less_one c.loop-w.invariant.0)))
           ∙ sym (spread_at a.recovery first w c.loop-w.invariant.0)),
     )
