@@ -1,6 +1,6 @@
 -- Laws of numbers from bytes: how the code puts a number together, and which bytes are the field at an index of a row. Each is a computation on
 -- the first few bytes. Assumes nothing.
-use Prim.Native.Nat.{ℕ, zero, suc, ◌+◌, ◌*◌, ◌≤◌, ◌<◌}
+use Prim.Native.Nat.{ℕ, ◌+◌, ◌*◌, ◌≤◌, ◌<◌}
 use native.Mathlib.Nat.{add-zero}
 use native.Mathlib.Omega.{arith}
 use mathlib.Core.Path.{◌≡◌, refl, sym, ap, ◌∙◌}
@@ -60,22 +60,6 @@ module _ (bytes : List ℕ) (at : ℕ) where
 pub row_is : (left : List ℕ) → row_of left ≡ number_at 4 4 left ∷ number_at 4 8 left ∷ number_at 4 12 left ∷ number_at 4 16 left ∷ []
 unfolding words
 row_is left = simp drop-drop
-
--- the word at an index
-get_d_words : (n : ℕ) (bytes : List ℕ) (i : ℕ) → i < n → get_or (words n bytes) i 0 ≡ number_at 4 (4 * i) bytes
-unfolding words
-get_d_words zero bytes i h = absurd (omega arith)
-get_d_words (suc n) bytes zero h = refl
-get_d_words (suc n) bytes (suc i) h =
-    get_d_words n (drop 4 bytes) i (omega arith)
-    ∙ ap (λ (l : List ℕ). number (take 4 l)) (drop-drop (4 * i) 4 bytes ∙ ap (λ (j : ℕ). drop j bytes) (next i))
-  where
-    next : (i : ℕ) → 4 + 4 * i ≡ 4 * suc i
-    next i = omega arith
-
-pub field_at : (left : List ℕ) (field : ℕ) → field < row_words → get_or (row_of left) field 0 ≡ number_at 4 (4 + 4 * field) left
-field_at left field h =
-    get_d_words row_words (drop 4 left) field h ∙ ap (λ (l : List ℕ). number (take 4 l)) (drop-drop (4 * field) 4 left)
 
 -- the row of a record stands in the record's own bytes
 module _ (own others : List ℕ) (whole : length own ≡ 20) where

@@ -1,6 +1,6 @@
 -- Laws of filling the table from a good file: how it starts, that what comes next is a job and has room, one row more, and the end. Nothing is refused in a good
 -- file, and a head stands only at its start, so every record after it is a job. Assumes nothing.
-use Prim.Native.Nat.{ℕ, ◌+◌, ◌-◌, ◌≤◌, ◌<◌}
+use Prim.Native.Nat.{ℕ, ◌+◌, ◌≤◌, ◌<◌}
 use native.Mathlib.Omega.{arith}
 use mathlib.Core.Path.{◌≡◌, refl, sym, ap, ◌∙◌, subst}
 use mathlib.Core.Bool.{true, false, cond, true≢false}

@@ -3,7 +3,7 @@
 use Prim.Native.Nat.{ℕ, suc, ◌+◌, ◌-◌, ◌≤◌, ◌<◌}
 use native.Mathlib.Numerals.{add-one}
 use native.Mathlib.Omega.{arith}
-use mathlib.Core.Path.{◌≡◌, refl, sym, ap, ◌∙◌}
+use mathlib.Core.Path.{◌≡◌, sym, ap, ◌∙◌}
 use mathlib.Core.List.{List, [], ◌∷◌, ◌++◌, append_assoc, append-nil}
 use lib.ListN.{length, get_or, take, drop, set, length-append, length-drop, drop_of_length-le}
 use lib.Seq.{length-take-le, drop-cons, take-suc, take_all, take_at, drop_at, drop-drop, set_at}
@@ -67,7 +67,3 @@ over_part t₀ t done block at k e l b =
     ∙ sym
     (over_at (done ++ block) t₀ (at + k) (omega (arith, length-append done block))
     ∙ append_assoc done block (drop (at + k) t₀))
-
-pub over_first : (t : List ℕ) (x : ℕ) → 1 ≤ length t → set t 0 x ≡ over (x ∷ []) t
-over_first [] x h = absurd (omega arith)
-over_first (y ∷ t) x h = refl

@@ -1,19 +1,17 @@
 -- Laws of the reader: what it meets is the record at its place, and where it has passed that, one record more is passed. Assumes nothing.
 use Prim.Native.Nat.{ℕ, ◌≤◌, ◌<◌}
 use native.Mathlib.Omega.{arith}
-use mathlib.Core.Path.{◌≡◌, sym, ap, ◌∙◌}
-use mathlib.Core.Bool.{false}
+use mathlib.Core.Path.{◌≡◌}
 use mathlib.Core.List.{List, ◌++◌}
-use lib.ListN.{length, drop, length-drop}
+use lib.ListN.{length, drop}
 use lib.Dec.{leb}
 use borrow.Author.Tests.{leb-true, leb-false}
 use Rattle.std.specs.Prelude.{Some, None, Ok, Err}
 use Rattle.jobs.proofs.Below.{by_cases}
-use Rattle.jobfile.specs.Meaning.{row_of, Answer, record_at, is_head, headed}
+use Rattle.jobfile.specs.Meaning.{row_of, Answer, record_at}
 use Rattle.jobfile.specs.Reading.{met, at_after, n_after, k_after}
 use Rattle.jobfile.specs.declared.Record.{Record}
 use Rattle.jobfile.specs.declared.Record.TheVariants.{Head, Job}
-use Rattle.jobfile.proofs.Records.{too_few_bytes}
 use Rattle.jobfile.proofs.Walk.{Passed, passed_head, passed_job}
 
 module _ (file : List ℕ) (at n : ℕ) where

@@ -1,7 +1,7 @@
 -- `jobfile::answer` meets its contract. The loop's invariant: the file means the rows of the records passed and what the walk from the reader's place on
 -- means; each turn is a law of the walk. The measure is what is left of the file. Assumes nothing.
 use native.Mathlib.Omega.{arith}
-use mathlib.Core.Path.{sym, ap, ◌∙◌}
+use mathlib.Core.Path.{sym, ◌∙◌}
 use mathlib.Core.List.{[]}
 use borrow.Author.Tests.{ltb-true, ltb-false}
 use Rattle.std.proofs.lemmas.Result.{err_from_is_err_and}

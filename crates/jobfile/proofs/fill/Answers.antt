@@ -1,9 +1,9 @@
 -- `jobfile::fill` meets its contract. The loop's invariant: the rows of the records passed lie over the table, and the bytes that are still to be cut
 -- are those after them; each turn is a law of filling. Assumes nothing.
-use Prim.Native.Nat.{ℕ, ◌+◌, ◌*◌, ◌-◌, ◌≤◌}
+use Prim.Native.Nat.{ℕ, ◌+◌, ◌*◌, ◌-◌}
 use native.Mathlib.Omega.{arith}
-use mathlib.Core.Path.{◌≡◌, sym, ap, ◌∙◌}
-use lib.ListN.{length, drop}
+use mathlib.Core.Path.{ap, ◌∙◌}
+use lib.ListN.{length}
 use Rattle.jobfile.proofs.Over.{lent}
 use Rattle.jobfile.proofs.Filling.{filling_none, filling_length, room_for_own, others_left, filling_more, filling_all}
 use Rattle.jobfile.proofs.fill.Goals as goal

@@ -1,6 +1,6 @@
 -- `jobfile::strays` meets its contract: where the search stops a field is outside its range, and where it ends none is. Assumes nothing.
 use Prim.Native.Nat.{ℕ, ◌<◌}
-use mathlib.Core.Path.{◌≡◌, sym, ap, ◌∙◌}
+use mathlib.Core.Path.{◌≡◌, sym, ◌∙◌}
 use mathlib.Core.Bool.{Bool, true, false, not}
 use lib.ListN.{get_or}
 use Rattle.std.proofs.Common.{rules}
