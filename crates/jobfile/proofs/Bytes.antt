@@ -1,12 +1,13 @@
 -- Laws of numbers from bytes: how the code puts a number together, and which bytes are the field at an index of a row. Each is a computation on
 -- the first few bytes. Assumes nothing.
-use Prim.Native.Nat.{ℕ, zero, suc, ◌+◌, ◌*◌, ◌≤◌, ◌<◌}
+use Prim.Native.Nat.{ℕ, ◌+◌, ◌*◌, ◌≤◌, ◌<◌}
 use native.Mathlib.Nat.{add-zero}
 use native.Mathlib.Omega.{arith}
-use mathlib.Core.Path.{◌≡◌, refl, ap, ◌∙◌}
-use mathlib.Core.List.{List, [], ◌∷◌}
+use mathlib.Core.Path.{◌≡◌, refl, sym, ap, ◌∙◌}
+use mathlib.Core.List.{List, [], ◌∷◌, ◌++◌}
 use lib.ListN.{length, get_or, take, drop, length-drop}
 use lib.Seq.{get_or-drop, drop-drop}
+use Rattle.std.proofs.lemmas.List.{take-append-le, drop-append-le}
 use Rattle.jobs.specs.Table.{row_words}
 use Rattle.jobfile.specs.Bytes.{number, number_at, words}
 use Rattle.jobfile.specs.Meaning.{row_of}
@@ -24,7 +25,7 @@ first_two [] h = absurd (omega arith)
 first_two (a ∷ []) h = absurd (omega arith)
 first_two (a ∷ b ∷ l) h = omega arith
 
-first_four : (l : List ℕ) → 4 ≤ length l → number (take 4 l) ≡ number (take 2 l) + 65536 * number (take 2 (drop 2 l))
+first_four : (l : List ℕ) → 4 ≤ length l → number (take 4 l) ≡ get_or l 0 0 + 256 * get_or l 1 0 + 65536 * get_or l 2 0 + 16777216 * get_or l 3 0
 unfolding number
 first_four [] h = absurd (omega arith)
 first_four (a ∷ []) h = absurd (omega arith)
@@ -43,25 +44,34 @@ module _ (bytes : List ℕ) (at : ℕ) where
   two_bytes h =
       omega (arith, first_two (drop at bytes) (omega (arith, length-drop at bytes)), get_or-drop at bytes 0 0, get_or-drop at bytes 1 0, ap (λ (i : ℕ). get_or bytes i 0) (add-zero at))
 
-  pub four_bytes : at + 4 ≤ length bytes → number_at 4 at bytes ≡ number_at 2 at bytes + 65536 * number_at 2 (at + 2) bytes
+  pub four_bytes : at + 4 ≤ length bytes → number_at 4 at bytes ≡ get_or bytes at 0 + 256 * get_or bytes (at + 1) 0 + 65536 * get_or bytes (at + 2) 0 + 16777216 * get_or bytes (at + 3) 0
   four_bytes h =
-      omega (arith, first_four (drop at bytes) (omega (arith, length-drop at bytes)), ap (λ (l : List ℕ). number (take 2 l)) (drop-drop 2 at bytes))
+      omega (
+        arith,
+        first_four (drop at bytes) (omega (arith, length-drop at bytes)),
+        get_or-drop at bytes 0 0,
+        get_or-drop at bytes 1 0,
+        get_or-drop at bytes 2 0,
+        get_or-drop at bytes 3 0,
+        ap (λ (i : ℕ). get_or bytes i 0) (add-zero at),
+      )
 
--- the word at an index
-get_d_words : (n : ℕ) (bytes : List ℕ) (i : ℕ) → i < n → get_or (words n bytes) i 0 ≡ number_at 4 (4 * i) bytes
+-- the words of a job's record
+pub row_is : (left : List ℕ) → row_of left ≡ number_at 4 4 left ∷ number_at 4 8 left ∷ number_at 4 12 left ∷ number_at 4 16 left ∷ []
 unfolding words
-get_d_words zero bytes i h = absurd (omega arith)
-get_d_words (suc n) bytes zero h = refl
-get_d_words (suc n) bytes (suc i) h =
-    get_d_words n (drop 4 bytes) i (omega arith)
-    ∙ ap (λ (l : List ℕ). number (take 4 l)) (drop-drop (4 * i) 4 bytes ∙ ap (λ (j : ℕ). drop j bytes) (next i))
-  where
-    next : (i : ℕ) → 4 + 4 * i ≡ 4 * suc i
-    next i = omega arith
+row_is left = simp drop-drop
 
-pub field_at : (left : List ℕ) (field : ℕ) → field < row_words → get_or (row_of left) field 0 ≡ number_at 4 (4 + 4 * field) left
-field_at left field h =
-    get_d_words row_words (drop 4 left) field h ∙ ap (λ (l : List ℕ). number (take 4 l)) (drop-drop (4 * field) 4 left)
+-- the row of a record stands in the record's own bytes
+module _ (own others : List ℕ) (whole : length own ≡ 20) where
+  number_here : (at : ℕ) → at + 4 ≤ 20 → number_at 4 at (own ++ others) ≡ number_at 4 at own
+  number_here at h =
+      ap (λ (l : List ℕ). number (take 4 l)) (drop-append-le at own others (omega arith))
+      ∙ ap number (take-append-le 4 (drop at own) others (omega (arith, length-drop at own)))
+
+  pub row_here : row_of (own ++ others) ≡ row_of own
+  row_here =
+      row_is (own ++ others)
+      ∙ rw (number_here 4 (omega arith), number_here 8 (omega arith), number_here 12 (omega arith), number_here 16 (omega arith)) (sym (row_is own))
 
 pub row-length : (left : List ℕ) → length (row_of left) ≡ row_words
 unfolding words

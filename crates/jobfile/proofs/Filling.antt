@@ -1,21 +1,23 @@
 -- Laws of filling the table from a good file: how it starts, that what comes next is a job and has room, one row more, and the end. Nothing is refused in a good
 -- file, and a head stands only at its start, so every record after it is a job. Assumes nothing.
-use Prim.Native.Nat.{ℕ, ◌+◌, ◌-◌, ◌≤◌, ◌<◌}
+use Prim.Native.Nat.{ℕ, ◌+◌, ◌≤◌, ◌<◌}
 use native.Mathlib.Omega.{arith}
 use mathlib.Core.Path.{◌≡◌, refl, sym, ap, ◌∙◌, subst}
 use mathlib.Core.Bool.{true, false, cond, true≢false}
 use mathlib.Core.List.{List, [], ◌++◌, append-nil}
-use lib.ListN.{length, drop, length-append}
-use borrow.Author.Tests.{le-ltb}
-use borrow.Rule.Slice.PartMut.{mid_of, put_mid}
+use lib.ListN.{length, drop, length-append, length-drop}
+use lib.Seq.{drop_at, drop-drop}
+use lib.Dec.{ltb}
+use borrow.Author.Tests.{le-ltb, ltb-true, ltb-false}
+use borrow.Rule.Slice.PartMut.{put_mid}
 use Rattle.std.specs.Prelude.{Ok, Err}
 use Rattle.jobs.specs.Table.{row_words}
 use Rattle.jobs.proofs.Below.{by_cases}
 use Rattle.jobfile.specs.Bytes.{over}
 use Rattle.jobfile.specs.Meaning.{row_of, Answer, record_at, Meaning, holds, refused, with_row, walk, is_head, headed, headless_k, meaning, filled, Good}
 use Rattle.jobfile.specs.declared.Record.TheVariants.{Head, Job}
-use Rattle.jobfile.proofs.Bytes.{row-length}
-use Rattle.jobfile.proofs.Over.{over-length, over_lent}
+use Rattle.jobfile.proofs.Bytes.{row_here, row-length}
+use Rattle.jobfile.proofs.Over.{over-length, over_part}
 use Rattle.jobfile.proofs.Records.{IsHead, as_head, head_answers}
 use Rattle.jobfile.proofs.Walk.{Passed, passed_none, passed_head, passed_job, passed_bad, passed_all, by-record}
 
@@ -104,23 +106,37 @@ module _ (file table₀ table : List ℕ) (at words : ℕ) (good : Good file (le
         let l = passed_fits file (at + 20) (f.n + 1) f.k (f.rows ++ row_of (drop at file)) (length table₀) next_passed good in
         omega (arith, length-append f.rows (row_of (drop at file)), row-length (drop at file), f.long)
 
-    pub filling_more : (left back : List ℕ) → left ≡ drop at file → back ≡ over (row_of left) (mid_of words (length table - words) table)
-        → Filling file table₀ (put_mid words (length table - words) table back) (at + 20) (words + 4)
-    filling_more left back e b =
-        record {
+  -- a record's bytes cut off from the rest of the file are the next job, and its row is written
+  module _ (rest own others : List ℕ) (left : rest ≡ drop at file) (cut : rest ≡ own ++ others) (whole : length own ≡ 20) where
+    own_inside : at < length file
+    own_inside = omega (arith, ap length left, ap length cut, length-append own others, length-drop at file)
+
+    pub room_for_own : words + row_words ≤ length table₀
+    room_for_own = next_fits own_inside
+
+    pub others_left : others ≡ drop (at + 20) file
+    others_left = sym (drop_at own others 20 whole) ∙ ap (drop 20) (sym cut ∙ left) ∙ drop-drop 20 at file
+
+    pub filling_more : (row : List ℕ) (start size next : ℕ) → row ≡ row_of own → start ≡ words → size ≡ 4 → next ≡ words + 4
+        → Filling file table₀ (put_mid start size table row) (at + 20) next
+    filling_more row start size next e s z m =
+        let here : row ≡ row_of (drop at file) = e ∙ sym (row_here own others whole) ∙ ap row_of (sym cut ∙ left) in
+        rw (s, z, m)
+        (record {
           n = f.n + 1;
           k = f.k;
           rows = f.rows ++ row_of (drop at file);
-          passed = next_passed;
+          passed = next_passed own_inside;
           no_head = λ z. absurd (omega arith);
           long = omega (arith, length-append f.rows (row_of (drop at file)), row-length (drop at file), f.long);
-          laid =
-              over_lent table₀ table back f.rows (row_of (drop at file)) words f.laid f.long (omega (arith, filling_fits, f.long))
-              (b ∙ ap (λ (s : List ℕ). over (row_of s) (mid_of words (length table - words) table)) e);
-        }
+          laid = ap (put_mid words 4 table) here ∙ over_part table₀ table f.rows (row_of (drop at file)) words 4 f.laid f.long (row-length (drop at file));
+        })
 
-  pub filling_all : length file ≤ at → table ≡ filled (meaning file) table₀
-  filling_all h =
-      let all = passed_all file at f.n f.k f.rows f.passed h in
+  pub filling_all : (rest : List ℕ) → rest ≡ drop at file → length rest < 20 → table ≡ filled (meaning file) table₀
+  filling_all rest left h =
+      let end : length file ≤ at = by_cases (ltb at (length file))
+      (λ t. let i = next_inside (ltb-true _ _ t) in absurd (omega (arith, ap length left, length-drop at file)))
+      (λ t. ltb-false _ _ t) in
+      let all = passed_all file at f.n f.k f.rows f.passed end in
       let fits : length (f.rows ++ []) ≤ length table₀ = omega (arith, length-append f.rows [], filling_fits) in
       f.laid ∙ sym (rw (all, le-ltb _ _ fits) (ap (λ (xs : List ℕ). over xs table₀) (append-nil f.rows)))

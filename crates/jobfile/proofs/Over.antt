@@ -3,7 +3,7 @@
 use Prim.Native.Nat.{ℕ, suc, ◌+◌, ◌-◌, ◌≤◌, ◌<◌}
 use native.Mathlib.Numerals.{add-one}
 use native.Mathlib.Omega.{arith}
-use mathlib.Core.Path.{◌≡◌, refl, sym, ap, ◌∙◌}
+use mathlib.Core.Path.{◌≡◌, sym, ap, ◌∙◌}
 use mathlib.Core.List.{List, [], ◌∷◌, ◌++◌, append_assoc, append-nil}
 use lib.ListN.{length, get_or, take, drop, set, length-append, length-drop, drop_of_length-le}
 use lib.Seq.{length-take-le, drop-cons, take-suc, take_all, take_at, drop_at, drop-drop, set_at}
@@ -57,6 +57,13 @@ over_lent t₀ t back done block at e l h b =
     ∙ ap (λ (s : List ℕ). put_mid at (length t - at) s (over block (mid_of at (length t - at) s))) e
     ∙ over_block done block t₀ at (length t - at) l (omega arith) (omega arith)
 
-pub over_first : (t : List ℕ) (x : ℕ) → 1 ≤ length t → set t 0 x ≡ over (x ∷ []) t
-over_first [] x h = absurd (omega arith)
-over_first (y ∷ t) x h = refl
+-- a block written over the part after the list
+pub over_part : (t₀ t done block : List ℕ) (at k : ℕ) → t ≡ over done t₀ → length done ≡ at → length block ≡ k → put_mid at k t block ≡ over (done ++ block) t₀
+over_part t₀ t done block at k e l b =
+    ap (λ (s : List ℕ). put_mid at k s block) e
+    ∙ ap (λ (p : List ℕ). p ++ (block ++ drop k (drop at (over done t₀)))) (take_at done (drop (length done) t₀) at l)
+    ∙ ap (λ (r : List ℕ). done ++ (block ++ drop k r)) (drop_at done (drop (length done) t₀) at l ∙ ap (λ (i : ℕ). drop i t₀) l)
+    ∙ ap (λ (r : List ℕ). done ++ (block ++ r)) (drop-drop k at t₀)
+    ∙ sym
+    (over_at (done ++ block) t₀ (at + k) (omega (arith, length-append done block))
+    ∙ append_assoc done block (drop (at + k) t₀))

@@ -7,15 +7,16 @@ use mathlib.Core.Bool.{Bool, true, false, not}
 use mathlib.Core.List.{List}
 use lib.ListN.{length}
 use lib.Dec.{ltb, leb, eqb}
-use borrow.Author.Tests.{eq-eqb, ne_eqb, eqb-true, not-false, lt-ltb, le-ltb, ltb-false, lt-leb, leb-false}
+use borrow.Author.Tests.{eq-eqb, eqb-true, not-false, le-ltb, ltb-false, lt-leb, leb-false}
 use Rattle.std.specs.Prelude.{Ok, Err}
 use Rattle.jobs.specs.Refusals.{given, refused}
 use Rattle.jobs.specs.declared.refusal.Reason.{Reason}
-use Rattle.jobs.specs.declared.refusal.Reason.TheVariants.{CutRecord, WrongLength, UnknownKind}
+use Rattle.jobs.specs.declared.refusal.Reason.TheVariants.{UnknownKind}
 use Rattle.jobs.specs.declared.refusal.Refusal.{Refusal}
 use Rattle.jobs.proofs.Below.{by_cases}
 use Rattle.jobs.proofs.Refusals.{refused_not_fine}
 use Rattle.jobfile.specs.Meaning.{length_of, kind_of, faults_of, row_of, strays, Answer, bad, refuse, head_at, job_at, by_kind, record_at}
+use Rattle.jobfile.specs.declared.Record.{Record}
 use Rattle.jobfile.specs.declared.Record.TheVariants.{Head, Job}
 
 -- a refusal that was given: its test holds, and what it is
@@ -24,18 +25,6 @@ is_given true reason place e = (refl, cc)
 is_given false reason place e = absurd (refused_not_fine (sym e))
 
 module _ (left : List ℕ) (at n : ℕ) where
-  pub too_few_bytes : length left < 2 → record_at left at n ≡ bad CutRecord at
-  unfolding record_at
-  too_few_bytes h = rw (lt-ltb _ _ h)
-
-  pub length_below_two : 2 ≤ length left → length_of left < 2 → record_at left at n ≡ bad WrongLength at
-  unfolding record_at
-  length_below_two h l = rw (le-ltb _ _ h, lt-ltb _ _ l)
-
-  pub cut_off : 2 ≤ length left → 2 ≤ length_of left → length left < 2 + length_of left → record_at left at n ≡ bad CutRecord at
-  unfolding record_at
-  cut_off h l m = rw (le-ltb _ _ h, le-ltb _ _ l, lt-ltb _ _ m)
-
   pub whole : 2 ≤ length_of left → 2 + length_of left ≤ length left → record_at left at n ≡ by_kind (kind_of left) left at n
   unfolding record_at
   whole l m = let h : 2 ≤ length left = omega arith in rw (le-ltb _ _ h, le-ltb _ _ l, le-ltb _ _ m)
@@ -48,20 +37,12 @@ module _ (left : List ℕ) (at n : ℕ) where
   unfolding by_kind
   kind_two e = rw e
 
-  pub kind_other : (kind_of left ≡ 1 → ⊥) → (kind_of left ≡ 2 → ⊥) → by_kind (kind_of left) left at n ≡ bad UnknownKind at
-  unfolding by_kind
-  kind_other p q = rw (ne_eqb _ _ p, ne_eqb _ _ q)
-
 -- ---- backwards
 
 -- a test that did not refuse is false, and what comes after it is the answer
-good_head : (b : Bool) (reason : Reason) (at k : ℕ) (next : Answer) → refuse b reason at next ≡ Ok (Head k) → (b ≡ false) × (next ≡ Ok (Head k))
-good_head true reason at k next e = let z : ◌≡◌ {A = ℕ} 0 1 = cc in absurd (omega arith)
-good_head false reason at k next e = (refl, e)
-
-good_job : (b : Bool) (reason : Reason) (at : ℕ) (next : Answer) → refuse b reason at next ≡ Ok Job → (b ≡ false) × (next ≡ Ok Job)
-good_job true reason at next e = let z : ◌≡◌ {A = ℕ} 0 1 = cc in absurd (omega arith)
-good_job false reason at next e = (refl, e)
+not_bad : (b : Bool) (reason : Reason) (at : ℕ) (next : Answer) {good : Record} → refuse b reason at next ≡ Ok good → (b ≡ false) × (next ≡ Ok good)
+not_bad true reason at next e = let z : ◌≡◌ {A = ℕ} 0 1 = cc in absurd (omega arith)
+not_bad false reason at next e = (refl, e)
 
 -- a head: its length, its kind, where it stands, and its k
 pub record IsHead (left : List ℕ) (at k : ℕ) : Type 0 where
@@ -80,34 +61,31 @@ pub record IsJob (left : List ℕ) (n : ℕ) : Type 0 where
   pub few : n < 64
   pub fits : strays (row_of left) ≡ false
 
-bad_no_head : (reason : Reason) (at k : ℕ) → bad reason at ≡ Ok (Head k) → ⊥
-bad_no_head reason at k e = let z : ◌≡◌ {A = ℕ} 0 1 = cc in omega arith
-
-bad_no_job : (reason : Reason) (at : ℕ) → bad reason at ≡ Ok Job → ⊥
-bad_no_job reason at e = let z : ◌≡◌ {A = ℕ} 0 1 = cc in omega arith
+bad_not_good : (reason : Reason) (at : ℕ) {good : Record} → bad reason at ≡ Ok good → ⊥
+bad_not_good reason at e = let z : ◌≡◌ {A = ℕ} 0 1 = cc in omega arith
 
 job_no_head : (left : List ℕ) (at n k : ℕ) → job_at left at n ≡ Ok (Head k) → ⊥
 unfolding job_at
 job_no_head left at n k e =
-    let long = good_head (not (eqb (length_of left) 18)) _ _ _ _ e in
-    let few = good_head (leb 64 n) _ _ _ _ long.1 in
-    let fits = good_head (strays (row_of left)) _ _ _ _ few.1 in
+    let long = not_bad (not (eqb (length_of left) 18)) _ _ _ e in
+    let few = not_bad (leb 64 n) _ _ _ long.1 in
+    let fits = not_bad (strays (row_of left)) _ _ _ few.1 in
     let z : ◌≡◌ {A = ℕ} 0 1 = cc in omega arith
 
 head_no_job : (left : List ℕ) (at : ℕ) → head_at left at ≡ Ok Job → ⊥
 unfolding head_at
 head_no_job left at e =
-    let long = good_job (not (eqb (length_of left) 3)) _ _ _ e in
-    let first = good_job (not (eqb at 0)) _ _ _ long.1 in
-    let few = good_job (ltb 8 (faults_of left)) _ _ _ first.1 in
+    let long = not_bad (not (eqb (length_of left) 3)) _ _ _ e in
+    let first = not_bad (not (eqb at 0)) _ _ _ long.1 in
+    let few = not_bad (ltb 8 (faults_of left)) _ _ _ first.1 in
     let z : ◌≡◌ {A = ℕ} 0 1 = cc in omega arith
 
 head_is : (left : List ℕ) (at k : ℕ) → 2 ≤ length_of left → 2 + length_of left ≤ length left → kind_of left ≡ 1 → head_at left at ≡ Ok (Head k) → IsHead left at k
 unfolding head_at
 head_is left at k l m kind e =
-    let long = good_head (not (eqb (length_of left) 3)) _ _ _ _ e in
-    let first = good_head (not (eqb at 0)) _ _ _ _ long.1 in
-    let few = good_head (ltb 8 (faults_of left)) _ _ _ _ first.1 in
+    let long = not_bad (not (eqb (length_of left) 3)) _ _ _ e in
+    let first = not_bad (not (eqb at 0)) _ _ _ long.1 in
+    let few = not_bad (ltb 8 (faults_of left)) _ _ _ first.1 in
     let three : length_of left ≡ 3 = eqb-true _ _ (not-false _ long.0) in
     let same : faults_of left ≡ k = cc in
     let most : faults_of left ≤ 8 = ltb-false _ _ few.0 in
@@ -123,41 +101,43 @@ head_is left at k l m kind e =
 job_is : (left : List ℕ) (at n : ℕ) → 2 ≤ length_of left → 2 + length_of left ≤ length left → kind_of left ≡ 2 → job_at left at n ≡ Ok Job → IsJob left n
 unfolding job_at
 job_is left at n l m kind e =
-    let long = good_job (not (eqb (length_of left) 18)) _ _ _ e in
-    let few = good_job (leb 64 n) _ _ _ long.1 in
-    let fits = good_job (strays (row_of left)) _ _ _ few.1 in
+    let long = not_bad (not (eqb (length_of left) 18)) _ _ _ e in
+    let few = not_bad (leb 64 n) _ _ _ long.1 in
+    let fits = not_bad (strays (row_of left)) _ _ _ few.1 in
     let eighteen : length_of left ≡ 18 = eqb-true _ _ (not-false _ long.0) in
     record { whole = omega arith; long = eighteen; kind = kind; few = leb-false _ _ few.0; fits = fits.0 }
 
+-- a good record is whole, and its kind gave the answer
+by_its_kind : (left : List ℕ) (at n : ℕ) {good : Record} → record_at left at n ≡ Ok good
+    → (2 ≤ length_of left) × (2 + length_of left ≤ length left) × (by_kind (kind_of left) left at n ≡ Ok good)
+unfolding record_at
+by_its_kind left at n e =
+    let some_bytes = not_bad (ltb (length left) 2) _ _ _ e in
+    let length_two = not_bad (ltb (length_of left) 2) _ _ _ some_bytes.1 in
+    let all_there = not_bad (ltb (length left) (2 + length_of left)) _ _ _ length_two.1 in
+    (ltb-false _ _ length_two.0, ltb-false _ _ all_there.0, all_there.1)
+
 -- a record that was answered with a head is one
 pub as_head : (left : List ℕ) (at n k : ℕ) → record_at left at n ≡ Ok (Head k) → IsHead left at k
-unfolding record_at by_kind
+unfolding by_kind
 as_head left at n k e =
-    let some_bytes = good_head (ltb (length left) 2) _ _ _ _ e in
-    let length_two = good_head (ltb (length_of left) 2) _ _ _ _ some_bytes.1 in
-    let All-there = good_head (ltb (length left) (2 + length_of left)) _ _ _ _ length_two.1 in
-    let l : 2 ≤ length_of left = ltb-false _ _ length_two.0 in
-    let m : 2 + length_of left ≤ length left = ltb-false _ _ All-there.0 in
+    let g = by_its_kind left at n e in
     by_cases (eqb (kind_of left) 1)
-    (λ t. head_is left at k l m (eqb-true _ _ t) (rw t at All-there.1))
+    (λ t. head_is left at k g.0 g.1 (eqb-true _ _ t) (rw t at g.2))
     (λ t. by_cases (eqb (kind_of left) 2)
-    (λ u. absurd (job_no_head left at n k (rw (t, u) at All-there.1)))
-    (λ u. absurd (bad_no_head UnknownKind at k (rw (t, u) at All-there.1))))
+    (λ u. absurd (job_no_head left at n k (rw (t, u) at g.2)))
+    (λ u. absurd (bad_not_good UnknownKind at (rw (t, u) at g.2))))
 
 -- a record that was answered with a job is one
 pub as_job : (left : List ℕ) (at n : ℕ) → record_at left at n ≡ Ok Job → IsJob left n
-unfolding record_at by_kind
+unfolding by_kind
 as_job left at n e =
-    let some_bytes = good_job (ltb (length left) 2) _ _ _ e in
-    let length_two = good_job (ltb (length_of left) 2) _ _ _ some_bytes.1 in
-    let All-there = good_job (ltb (length left) (2 + length_of left)) _ _ _ length_two.1 in
-    let l : 2 ≤ length_of left = ltb-false _ _ length_two.0 in
-    let m : 2 + length_of left ≤ length left = ltb-false _ _ All-there.0 in
+    let g = by_its_kind left at n e in
     by_cases (eqb (kind_of left) 1)
-    (λ t. absurd (head_no_job left at (rw t at All-there.1)))
+    (λ t. absurd (head_no_job left at (rw t at g.2)))
     (λ t. by_cases (eqb (kind_of left) 2)
-    (λ u. job_is left at n l m (eqb-true _ _ u) (rw (t, u) at All-there.1))
-    (λ u. absurd (bad_no_job UnknownKind at (rw (t, u) at All-there.1))))
+    (λ u. job_is left at n g.0 g.1 (eqb-true _ _ u) (rw (t, u) at g.2))
+    (λ u. absurd (bad_not_good UnknownKind at (rw (t, u) at g.2))))
 
 -- and what is one is answered so
 pub head_answers : (left : List ℕ) (at n k : ℕ) → IsHead left at k → record_at left at n ≡ Ok (Head k)

@@ -5,9 +5,10 @@
 ghost use Rattle.std.specs.Prelude.{◌≡◌, cond, ◌+◌, ◌≤◌, ◌<◌, length, get_or, drop};
 ghost use Rattle.jobs.specs.Table.{row_words};
 ghost use Rattle.jobfile.specs.Bytes.{number_at, over};
-ghost use Rattle.jobfile.specs.Meaning.{length_of, row_of, strays, head_at, job_at, record_at, headed, meaning, answered, filled, Good, ReadsTo};
+ghost use Rattle.jobfile.specs.Reading.{met, at_after, n_after, k_after};
+ghost use Rattle.jobfile.specs.Meaning.{headless_k, length_of, row_of, strays, head_at, job_at, record_at, headed, meaning, answered, filled, Good, ReadsTo};
 
-use jobs::{MOST_FAULTS, MOST_JOBS, ROW, Reason, Refusal, given};
+use jobs::{MOST_FAULTS, MOST_JOBS, ROW, Reason, Refusal, given, in_range};
 
 // The k of a file without a head.
 const HEADLESS_K: u32 = 2;
@@ -24,11 +25,13 @@ pub enum Record {
     Job,
 }
 
-// The walk over the file: the lent bytes, and the offset of the next record.
+// The walk over the file: the lent bytes, the offset of the next record, the jobs before it, and k so far.
 #[derive(Clone, Copy)]
 pub struct Reader<'a> {
     pub file: &'a [u8],
     pub at: usize,
+    pub n: usize,
+    pub k: u32,
 }
 
 // What a job file holds beside its rows: n and k.
@@ -38,22 +41,12 @@ pub struct Contents {
     pub k: u32,
 }
 
-// The byte at an offset, as a number.
-fn byte_at(bytes: &[u8], at: usize) -> u32
-    requires { at < length bytes.now }
-    ensures { (result ≡ get_or bytes.now at 0) × (result < 256) }
-{
-    bytes[at] as u32
-}
-
 // The 16-bit number at an offset.
-fn u16_at(bytes: &[u8], at: usize) -> u32
+fn u16_at(bytes: &[u8], at: usize) -> u16
     requires { at + 2 ≤ length bytes.now }
-    ensures { (result ≡ number_at 2 at bytes.now) × (result < 65536) }
+    ensures { result ≡ number_at 2 at bytes.now }
 {
-    let low = byte_at(bytes, at);
-    let high = byte_at(bytes, at + 1);
-    low + 256 * high
+    u16::from_le_bytes([bytes[at], bytes[at + 1]])
 }
 
 // The 32-bit number at an offset.
@@ -61,24 +54,27 @@ fn u32_at(bytes: &[u8], at: usize) -> u32
     requires { at + 4 ≤ length bytes.now }
     ensures { result ≡ number_at 4 at bytes.now }
 {
-    let low = u16_at(bytes, at);
-    let high = u16_at(bytes, at + 2);
-    low + 65536 * high
+    u32::from_le_bytes([bytes[at], bytes[at + 1], bytes[at + 2], bytes[at + 3]])
 }
 
-// Whether a field of a job's row is outside its range.
-fn strays(left: &[u8]) -> bool
+// The row of the job record at the start of the bytes that are left.
+fn row(left: &[u8]) -> [u32; 4]
     requires { 20 ≤ length left.now }
-    ensures { result ≡ strays (row_of left.now) }
+    ensures { result ≡ row_of left.now }
 {
-    let mut field = 0;
-    while field < ROW {
-        if !jobs::in_range(field, u32_at(left, 4 + 4 * field)) {
-            return true;
-        }
-        field += 1;
-    }
-    false
+    [
+        u32_at(left, 4),
+        u32_at(left, 8),
+        u32_at(left, 12),
+        u32_at(left, 16),
+    ]
+}
+
+// Whether a field of a row is outside its range.
+fn strays(row: [u32; 4]) -> bool
+    ensures { result ≡ strays row }
+{
+    (0..ROW).any(|field| !in_range(field, row[field]))
 }
 
 // Kind 1: 21, 23, 25.
@@ -89,7 +85,7 @@ fn head(left: &[u8], at: usize) -> Result<Record, Refusal>
 {
     given(u16_at(left, 0) != 3, Reason::WrongLength, at)?;
     given(at != 0, Reason::LateHead, at)?;
-    let k = byte_at(left, 4);
+    let k = u32::from(left[4]);
     given(MOST_FAULTS < k, Reason::StrayField, at)?;
     Ok(Record::Head(k))
 }
@@ -102,7 +98,7 @@ fn job(left: &[u8], at: usize, n: usize) -> Result<Record, Refusal>
 {
     given(u16_at(left, 0) != 18, Reason::WrongLength, at)?;
     given(MOST_JOBS <= n, Reason::JobTooMany, at)?;
-    given(strays(left), Reason::StrayField, at)?;
+    given(strays(row(left)), Reason::StrayField, at)?;
     Ok(Record::Job)
 }
 
@@ -112,7 +108,7 @@ fn record_of(left: &[u8], at: usize, n: usize) -> Result<Record, Refusal>
     ensures { result ≡ record_at left.now at n }
 {
     given(left.len() < 2, Reason::CutRecord, at)?;
-    let length = u16_at(left, 0) as usize;
+    let length = usize::from(u16_at(left, 0));
     given(length < 2, Reason::WrongLength, at)?;
     given(left.len() < 2 + length, Reason::CutRecord, at)?;
     match u16_at(left, 2) {
@@ -125,78 +121,69 @@ fn record_of(left: &[u8], at: usize, n: usize) -> Result<Record, Refusal>
     }
 }
 
-// The record at an offset of the file.
-fn record_at(file: &[u8], at: usize, n: usize) -> Result<Record, Refusal>
-    ensures { result ≡ record_at (drop at file.now) at n }
-{
-    given(file.len() <= at, Reason::CutRecord, at)?;
-    record_of(&file[at..], at, n)
-}
+impl<'a> Reader<'a> {
+    // A reader at an offset of the file, that has passed no record.
+    fn start(file: &'a [u8], at: usize) -> Reader<'a>
+        ensures place { (result.file ≡ file.entry) × (result.at ≡ at) }
+        ensures tally { (result.n ≡ 0) × (result.k ≡ headless_k) }
+    {
+        Reader {
+            file,
+            at,
+            n: 0,
+            k: HEADLESS_K,
+        }
+    }
 
-// A reader at an offset of the file.
-fn start<'a>(file: &'a [u8], at: usize) -> Reader<'a>
-    ensures { (result.file ≡ file.entry) × (result.at ≡ at) }
-{
-    Reader { file, at }
-}
-
-// The record at the reader's place.
-fn next<'a>(reader: Reader<'a>, n: usize) -> Result<Record, Refusal>
-    ensures { result ≡ record_at (drop reader.entry.at reader.entry.file.now) reader.entry.at n }
-{
-    record_at(reader.file, reader.at, n)
-}
-
-// The record that a reader at an offset of the file meets next: the walk's one way to the reader.
-fn next_at(file: &[u8], at: usize, n: usize) -> Result<Record, Refusal>
-    ensures { result ≡ record_at (drop at file.now) at n }
-{
-    next(start(file, at), n)
+    // The record at the reader's place, none at the end of the file; the reader passes it, unless it is refused.
+    fn next(&mut self) -> Option<Result<Record, Refusal>>
+        ensures met { result ≡ met self.old.file.now self.old.at self.old.n }
+        ensures file { self.new.file ≡ self.old.file }
+        ensures at { self.new.at ≡ at_after result self.old.at }
+        ensures n { self.new.n ≡ n_after result self.old.n }
+        ensures k { self.new.k ≡ k_after result self.old.k }
+    {
+        if self.file.len() <= self.at {
+            return None;
+        }
+        let record = record_of(&self.file[self.at..], self.at, self.n);
+        match record {
+            Ok(Record::Head(k)) => {
+                self.k = k;
+                self.at += HEAD_BYTES;
+            }
+            Ok(Record::Job) => {
+                self.n += 1;
+                self.at += JOB_BYTES;
+            }
+            Err(_) => {}
+        }
+        Some(record)
+    }
 }
 
 // What reading answers, for a table buffer of so many words: the first refusal met ends it, and 26 comes after all records.
 fn answer(file: &[u8], room: usize) -> Result<Contents, Refusal>
     ensures { result ≡ answered (meaning file.now) room (length file.now) }
 {
-    let mut at: usize = 0;
-    let mut n: usize = 0;
-    let mut k = HEADLESS_K;
-    while at < file.len() {
-        let record = next_at(file, at, n)?;
-        match record {
-            Record::Head(faults) => {
-                k = faults;
-                at += HEAD_BYTES;
-            }
-            Record::Job => {
-                n += 1;
-                at += JOB_BYTES;
-            }
-        }
+    let mut reader = Reader::start(file, 0);
+    while let Some(record) = reader.next() {
+        record?;
     }
-    given(room < n * ROW, Reason::ShortTable, file.len())?;
-    Ok(Contents { n, k })
+    given(room < reader.n * ROW, Reason::ShortTable, file.len())?;
+    Ok(Contents {
+        n: reader.n,
+        k: reader.k,
+    })
 }
 
 // Where the jobs begin: after the head, if the file has one.
 fn first_job(file: &[u8]) -> usize
     ensures { result ≡ cond (headed file.now) 5 0 }
 {
-    match next_at(file, 0, 0) {
+    match record_of(file, 0, 0) {
         Ok(Record::Head(_)) => HEAD_BYTES,
         _ => 0,
-    }
-}
-
-// The row of the job record at the start of the bytes that are left.
-fn fill_row(left: &[u8], table: &mut [u32])
-    requires { (20 ≤ length left.now) × (row_words ≤ length table.old) }
-    ensures { table.new ≡ over (row_of left.now) table.old }
-{
-    let mut field = 0;
-    while field < ROW {
-        table[field] = u32_at(left, 4 + 4 * field);
-        field += 1;
     }
 }
 
@@ -205,12 +192,9 @@ fn fill(file: &[u8], table: &mut [u32])
     requires { Good file.now (length table.old) }
     ensures { table.new ≡ filled (meaning file.now) table.old }
 {
-    let mut at = first_job(file);
-    let mut words: usize = 0;
-    while at < file.len() {
-        fill_row(&file[at..], &mut table[words..]);
-        at += JOB_BYTES;
-        words += ROW;
+    let first = first_job(file);
+    for (i, record) in file[first..].chunks_exact(JOB_BYTES).enumerate() {
+        table[i * ROW..i * ROW + ROW].copy_from_slice(&row(record));
     }
 }
 

@@ -6,7 +6,8 @@ use mathlib.Core.Path.{◌≡◌, refl, sym, ap, ◌∙◌}
 use mathlib.Core.List.{List, [], ◌∷◌, ◌++◌, append_assoc, append-nil}
 use lib.ListN.{length, get_or, take, drop, length-append, length-drop}
 use lib.Seq.{length-take-le, take-suc, drop-drop}
-use native.Mathlib.Nat.{div-mul-le_self}
+use native.Mathlib.Nat.{div-mul-le_self, div-div-eq-div-mul}
+use Rattle.std.specs.Int.{w16, w32, to_le_bytes}
 use Rattle.jobs.specs.Table.{row_words, jobs}
 use Rattle.jobfile_write.specs.Writing.{bytes_of, word_bytes, head_bytes, job_bytes, jobs_bytes, file_of}
 
@@ -36,6 +37,15 @@ word_bytes_more row i h =
     ap word_bytes (ap (λ (j : ℕ). take j row) (add-one i) ∙ take-suc row i 0 h)
     ∙ word_bytes-append (take i row) (get_or row i 0 ∷ [])
     ∙ ap (λ (l : List ℕ). word_bytes (take i row) ++ l) (word_bytes_one (get_or row i 0))
+
+-- what std writes of a number
+pub two_bytes : (x : ℕ) → to_le_bytes w16 x ≡ bytes_of 2 x
+unfolding bytes_of
+two_bytes x = refl
+
+pub four_bytes : (x : ℕ) → to_le_bytes w32 x ≡ bytes_of 4 x
+unfolding bytes_of
+four_bytes x = simp div-div-eq-div-mul
 
 pub head_bytes-length : (k : ℕ) → length (head_bytes k) ≡ 5
 unfolding head_bytes bytes_of

@@ -6,7 +6,9 @@ use Prim.Native.Nat.{ℕ, zero, suc, ◌≤◌, ◌<◌}
 use native.Mathlib.Omega.{arith}
 use mathlib.Core.Path.{◌≡◌, refl, sym, ap, ◌∙◌}
 use mathlib.Core.List.{List, [], ◌∷◌, ◌++◌}
-use lib.ListN.{length, get_or, drop}
+use lib.ListN.{length, get_or, take, drop, length-take}
+use lib.Seq.{ext_get_or}
+use Rattle.std.proofs.lemmas.List.{get_or-take}
 use borrow.Author.Tests.{ltb-true, ltb-false, not-false}
 use Rattle.std.specs.Prelude.{Result, Ok, Err}
 use Rattle.jobs.specs.Below.{listed}
@@ -104,6 +106,14 @@ listed_same : (n : ℕ) (f g : ℕ → ℕ) → ((i : ℕ) → i < n → f i ≡
 unfolding listed
 listed_same zero f g h = refl
 listed_same (suc n) f g h = rw (listed_same n f g (λ i l. h i (omega arith)), h n (omega arith))
+
+-- the first n words of an array, as the list of its values
+pub take_listed : (xs : List ℕ) (n : ℕ) → n ≤ length xs → take n xs ≡ listed n (values xs)
+take_listed xs n l =
+    ext_get_or 0 (take n xs) (listed n (values xs)) (omega (arith, length-take n xs, length-listed n (values xs)))
+    (λ i m.
+    let below : i < n = omega (arith, length-take n xs) in
+    get_or-take n xs i 0 below ∙ sym (get_or-listed n (values xs) 0 i below))
 
 pub fill_same : (n : ℕ) (f g : ℕ → ℕ) (buffer : List ℕ) → ((i : ℕ) → i < n → f i ≡ g i) → fill n f buffer ≡ fill n g buffer
 unfolding fill

@@ -2,20 +2,17 @@
 --
 -- In order: the refusals of schedule taken apart; schedule's promise in either case, and that two results which it allows are equal: the answer and
 -- the buffer are each equal to the same definition; then the same of free slots. Assumes nothing.
-use Prim.Native.Nat.{ℕ, ◌≤◌}
+use Prim.Native.Nat.{ℕ}
 use mathlib.Core.Path.{◌≡◌, sym, ap, ◌∙◌}
 use mathlib.Core.List.{List, [], ◌∷◌}
 use lib.ListN.{length}
-use borrow.Author.Tests.{ltb-false, eqb-true, not-false}
 use Rattle.jobs.specs.Table.{jobs}
 use Rattle.std.specs.Prelude.{Result, Err}
 use Rattle.jobs.specs.Refusals.{Check, fine, after, first, table_refusals}
-use Rattle.jobs.specs.declared.refusal.Reason.TheVariants.{ShortBuffer, WrongPattern, TooManyFailures}
 use Rattle.jobs.specs.declared.refusal.Refusal.{Refusal}
-use Rattle.jobs.proofs.Refusals.{not-given, after_fine, after_last, first-append}
+use Rattle.jobs.proofs.Refusals.{after_fine, after_last, first-append}
 use Rattle.frame.specs.Schedule.{finish}
 use Rattle.schedule.specs.Asks.{short_buffer, wrong_pattern, too_many_failures, too_late, schedule_refusals, Scheduled, fill, free_slots_refusals, free_slots_answer}
-use Rattle.schedule.specs.Events.{Accepted}
 
 -- ---- the refusals of schedule
 
@@ -27,23 +24,6 @@ module _ (table pattern : List ℕ) (room : ℕ) where
       first-append (table_refusals table) (wrong_pattern table pattern ∷ too_many_failures pattern ∷ short_buffer table room ∷ [])
       ∙ ap (λ last. after (first (table_refusals table)) (after (wrong_pattern table pattern) (after (too_many_failures pattern) last)))
       (after_last (short_buffer table room))
-
-  -- What is not refused is accepted, and the buffer has room.
-  pub not_refused : first (schedule_refusals table pattern room) ≡ fine → Accepted table pattern × (jobs table ≤ room)
-  not_refused none =
-      let a = after_fine (first (table_refusals table)) _ (sym schedule_refusals_lem ∙ none) in
-      let b = after_fine (wrong_pattern table pattern) _ a.1 in
-      let c = after_fine (too_many_failures pattern) _ b.1 in (
-        record {
-          good = a.0;
-          counts =
-              record {
-                long = eqb-true _ _ (not-false _ (not-given _ WrongPattern (jobs table) b.0));
-                few = ltb-false _ _ (not-given _ TooManyFailures 0 c.0);
-              };
-        },
-        ltb-false _ _ (not-given _ ShortBuffer (jobs table) c.1),
-      )
 
 -- ---- the promise of schedule
 

@@ -1,11 +1,12 @@
 use Prim.Native.Nat.{ℕ, ◌-◌}
+use mathlib.Core.Path.{◌≡◌}
 use mathlib.Core.List.{List}
 use lib.ListN.{length}
 use Rattle.jobfile.proofs.Walk.{Passed}
 use Rattle.jobfile.proofs.answer.Given as goal
 
-abbrev pub invariant-loop-at : goal.invariant-loop-at
-invariant-loop-at l = (rows : List ℕ) × Passed l.file l.at l.n l.k rows
+abbrev pub invariant-loop-record : goal.invariant-loop-record
+invariant-loop-record l = (rows : List ℕ) × (l.reader.file.now ≡ l.file) × Passed l.file l.reader.at l.reader.n l.reader.k rows
 
-abbrev pub decreases-loop-at : goal.decreases-loop-at
-decreases-loop-at l = length l.file - l.at
+abbrev pub decreases-loop-record : goal.decreases-loop-record
+decreases-loop-record l = length l.file - l.reader.at

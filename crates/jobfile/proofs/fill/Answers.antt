@@ -1,47 +1,57 @@
--- `jobfile::fill` meets its contract. The loop's invariant: the rows of the records passed lie over the table; each turn is a law of filling.
--- The measure is what is left of the file. Assumes nothing.
-use Prim.Native.Nat.{ℕ, ◌<◌, ◌+◌, ◌-◌, ◌≤◌}
+-- `jobfile::fill` meets its contract. The loop's invariant: the rows of the records passed lie over the table, and the bytes that are still to be cut
+-- are those after them; each turn is a law of filling. Assumes nothing.
+use Prim.Native.Nat.{ℕ, ◌+◌, ◌*◌, ◌-◌}
 use native.Mathlib.Omega.{arith}
-use Rattle.jobs.specs.Table.{row_words}
-use Rattle.jobfile.specs.Meaning.{Good}
-use Rattle.jobfile.proofs.Over.{lent, part_length}
-use mathlib.Core.List.{List}
+use mathlib.Core.Path.{ap, ◌∙◌}
 use lib.ListN.{length}
-use Rattle.jobfile.proofs.Filling.{Filling, filling_none, filling_length, next_inside, next_fits, filling_more, filling_all}
+use Rattle.jobfile.proofs.Over.{lent}
+use Rattle.jobfile.proofs.Filling.{filling_none, filling_length, room_for_own, others_left, filling_more, filling_all}
 use Rattle.jobfile.proofs.fill.Goals as goal
 
--- in a turn the file has a whole job more, and the table room for its row
-module _ (file table₀ table : List ℕ) (at words : ℕ) (good : Good file (length table₀)) (f : Filling file table₀ table at words) (h : at < length file) where
-  job-left : at + 20 ≤ length file
-  job-left = next_inside file table₀ table at words good f h
+pub slice_bounds-chunks_exact-count : goal.slice_bounds-chunks_exact-count
+slice_bounds-chunks_exact-count c = let f = filling_none c.args.file.now c.args.table.now _ c.first_job-first.ensures in f.passed.inside
 
-  row_room : words + row_words ≤ length table
-  row_room =
-      omega (arith, next_fits file table₀ table at words good f h, filling_length file table₀ table at words good f)
+pub slice_bounds-chunks_exact-start : goal.slice_bounds-chunks_exact-start
+slice_bounds-chunks_exact-start c = let f = filling_none c.args.file.now c.args.table.now _ c.first_job-first.ensures in omega (arith, f.passed.inside)
 
-pub loop-at-init : goal.loop-at-init
-loop-at-init c = filling_none _ _ _ c.first_job-at.ensures
+pub loop-i-init : goal.loop-i-init
+loop-i-init c =
+    let first = c.first_job-first.result in
+    let file = c.args.file.now in
+    let chunks = c.chunks_exact.ensures in
+    let numbered = c.enumerate-i-items.ensures in
+    let same = c.into_iter-i-iterator.ensures.into_iter_gives in
+    let f = filling_none file c.args.table.now first c.first_job-first.ensures in (
+      first,
+      rw (same, numbered.count) f,
+      rw (same, numbered.source) (chunks.rest ∙ lent file first (length file - first) (omega (arith, f.passed.inside))),
+      rw (same, numbered.source) chunks.size,
+    )
 
-pub slice_bounds-fill_row-count-in-loop-at : goal.slice_bounds-fill_row-count-in-loop-at
-slice_bounds-fill_row-count-in-loop-at c = let r = row_room _ _ _ _ _ c.requires c.loop-at.invariant c.loop-at-test.true in omega arith
+pub slice_bounds-copy_from_slice-end : goal.slice_bounds-copy_from_slice-end
+slice_bounds-copy_from_slice-end c =
+    let a = c.args in
+    let i = c.loop-i.invariant in
+    let s = c.in-Some.ensures.steps in
+    let r = room_for_own a.file.now a.table.now c.loop-i.table i.0 (c.loop-i.i-iterator.count * 4) c.requires i.1 _ c.in-Some.record.now _ i.2 s.0.1.0 (s.0.1.1 ∙ i.3) in
+    let l = filling_length a.file.now a.table.now c.loop-i.table i.0 (c.loop-i.i-iterator.count * 4) c.requires i.1 in
+    omega arith
 
-pub fill_row-requires : goal.fill_row-requires
-fill_row-requires c =
-    let s = c.args in
-    let p = c.loop-at in
-    let j = job-left _ _ _ _ _ c.requires c.loop-at.invariant c.loop-at-test.true in
-    let r = row_room _ _ _ _ _ c.requires c.loop-at.invariant c.loop-at-test.true in
-    (omega (arith, part_length s.file.now p.at), omega (arith, part_length p.table p.words))
-
-pub loop-at-preserved : goal.loop-at-preserved
-loop-at-preserved c =
-    let s = c in
-    let p = c.loop-at in
-    filling_more s.args.file.now s.args.table.now p.table p.at p.words s.requires p.invariant c.loop-at-test.true _ _
-    (lent s.args.file.now p.at (length s.args.file.now - p.at) (omega arith)) c.fill_row.ensures
+pub loop-i-preserved : goal.loop-i-preserved
+loop-i-preserved c =
+    let a = c.args in
+    let i = c.loop-i.invariant in
+    let s = c.in-Some.ensures.steps in (
+      i.0 + 20,
+      filling_more a.file.now a.table.now c.loop-i.table i.0 (c.loop-i.i-iterator.count * 4) c.requires i.1 _ c.in-Some.record.now _ i.2 s.0.1.0 (s.0.1.1 ∙ i.3)
+          _ _ _ _ (c.copy_from_slice.ensures.after ∙ c.row.ensures) (ap (λ (n : ℕ). n * 4) s.1) (omega arith) (omega arith),
+      others_left a.file.now a.table.now c.loop-i.table i.0 (c.loop-i.i-iterator.count * 4) c.requires i.1 _ c.in-Some.record.now _ i.2 s.0.1.0 (s.0.1.1 ∙ i.3),
+      s.0.0 ∙ i.3,
+    )
 
 pub returns : goal.returns
 returns c =
-    let s = c in
-    let p = c.loop-at in
-    filling_all s.args.file.now s.args.table.now p.table p.at p.words s.requires p.invariant c.loop-at-test.false
+    let a = c.args in
+    let i = c.loop-i.invariant in
+    let s = c.in-None.ensures.steps in
+    filling_all a.file.now a.table.now c.loop-i.table i.0 (c.loop-i.i-iterator.count * 4) c.requires i.1 _ i.2 (omega (arith, s.0.1.0, i.3))

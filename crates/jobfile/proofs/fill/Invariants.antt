@@ -1,10 +1,11 @@
-use Prim.Native.Nat.{◌-◌}
-use lib.ListN.{length}
+use Prim.Native.Nat.{ℕ, ◌*◌}
+use mathlib.Core.Path.{◌≡◌}
+use lib.ListN.{drop}
+use Rattle.std.specs.Slice.Iter.{chunks_exact_rest, chunks_exact_size}
 use Rattle.jobfile.proofs.Filling.{Filling}
 use Rattle.jobfile.proofs.fill.Given as goal
 
-abbrev pub invariant-loop-at : goal.invariant-loop-at
-invariant-loop-at l = Filling l.file l.initial.table l.table l.at l.words
-
-abbrev pub decreases-loop-at : goal.decreases-loop-at
-decreases-loop-at l = length l.file - l.at
+abbrev pub invariant-loop-i : goal.invariant-loop-i
+invariant-loop-i l =
+    let chunks = l.i-iterator.iter in
+    (at : ℕ) × Filling l.file l.initial.table l.table at (l.i-iterator.count * 4) × (chunks_exact_rest chunks ≡ drop at l.file) × (chunks_exact_size chunks ≡ 20)

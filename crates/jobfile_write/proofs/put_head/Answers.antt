@@ -1,8 +1,12 @@
--- `jobfile_write::put_head` meets its contract: length, kind and k lie one after the other. Assumes nothing.
+-- `jobfile_write::put_head` meets its contract: k, which is a byte, lies after length and kind. Assumes nothing.
+use Prim.Native.Nat.{ℕ, ◌<◌}
+use native.Mathlib.Nat.{mod-eq_of_lt}
 use native.Mathlib.Omega.{arith}
-use mathlib.Core.Path.{refl}
-use mathlib.Core.List.{◌++◌}
-use Rattle.jobfile.proofs.Over.{over_lent}
+use mathlib.Core.Path.{ap, ◌∙◌}
+use mathlib.Core.List.{List}
+use lib.ListN.{set}
+use lib.Dec.{lit<}
+use Rattle.jobfile.proofs.Over.{over_one_more}
 use Rattle.jobfile_write.specs.Writing.{bytes_of, head_bytes}
 use Rattle.jobfile_write.proofs.put_head.Goals as goal
 
@@ -10,7 +14,6 @@ pub returns : goal.returns
 unfolding head_bytes bytes_of
 returns c =
     let a = c.args in
-    let free = a.free.now in
-    let length-laid = c.put_u16.ensures in
-    let kind-laid = over_lent free _ _ (bytes_of 2 3) (bytes_of 2 1) 2 length-laid refl (omega arith) c.put_u16-2.ensures in
-    over_lent free _ _ (bytes_of 2 3 ++ bytes_of 2 1) (bytes_of 1 a.k) 4 kind-laid refl (omega arith) c.put_u8.ensures
+    let small : a.faults.k < 256 = omega (arith, a.faults.few) in
+    ap (λ (l : List ℕ). set l 4 a.faults.k) c.put_kind.ensures
+    ∙ over_one_more (head_bytes a.faults.k) a.free.now 4 a.faults.k (lit< tt) (omega arith) (mod-eq_of_lt small)

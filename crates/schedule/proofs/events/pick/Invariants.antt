@@ -1,10 +1,8 @@
-use Prim.Native.Nat.{◌≤◌, ◌-◌}
-use Rattle.schedule.specs.Events.{still_waits}
-use Rattle.schedule.proofs.Sorted.{NoneBelow}
+use mathlib.Core.Path.{◌≡◌}
+use lib.ListN.{drop}
+use Rattle.std.specs.Prelude.{find}
+use Rattle.schedule.specs.Events.{waiting}
 use Rattle.schedule.proofs.events.pick.Given as goal
 
-abbrev pub invariant-loop-rank : goal.invariant-loop-rank
-invariant-loop-rank l = (l.rank ≤ l.n) × NoneBelow l.table (still_waits l.table l.left l.time) l.rank
-
-abbrev pub decreases-loop-rank : goal.decreases-loop-rank
-decreases-loop-rank l = l.n - l.rank
+abbrev pub invariant-loop-job : goal.invariant-loop-job
+invariant-loop-job l = find (waiting l.times l.left l.time) l.sorted ≡ find (waiting l.times l.left l.time) (drop l.job-index l.sorted)
