@@ -57,18 +57,17 @@ unfolding turns
 turns_at_most table time left =
     omega (arith, count_at_most (jobs table) (λ job. ltb 0 (get_or left job 0)), count_at_most (jobs table) (λ job. ltb time (ready table job)))
 
--- What holds when the events begin: a good table, a pattern that is accepted, room in the buffer, and the ready times in an array.
-pub record Begun (table pattern before times : List ℕ) : Type 0 where
+-- What holds when the events begin: a good table of n jobs, a pattern that is accepted, room in the buffer, the jobs by urgency, and the ready
+-- times in an array.
+pub record Begun (table pattern before : List ℕ) (n : ℕ) (order : List Job) (times : List ℕ) : Type 0 where
   pub good : Good table
   pub counts : AtMost (jobs table) 8 pattern
   pub room : jobs table ≤ length before
+  pub all_jobs : n ≡ jobs table
+  pub order_is : order ≡ sorted table
   pub times_are : Holds 64 times (jobs table) (ready table)
 
-pub begin : {table pattern before times : List ℕ} → Good table → AtMost (jobs table) 8 pattern → jobs table ≤ length before → Holds 64 times (jobs table) (ready table)
-    → Begun table pattern before times
-begin good counts room times_are = record { good = good; counts = counts; room = room; times_are = times_are }
-
-module _ {table pattern before times : List ℕ} (begun : Begun table pattern before times) where
+module _ {table pattern before : List ℕ} {n : ℕ} {order : List Job} {times : List ℕ} (begun : Begun table pattern before n order times) where
   -- ---- the start
 
   pub along_first : (left : List ℕ) → Holds 64 left (jobs table) (need table pattern) → Along table pattern before 0 left before
@@ -84,22 +83,22 @@ module _ {table pattern before times : List ℕ} (begun : Begun table pattern be
   module _ {time : ℕ} {left finishes : List ℕ} (along : Along table pattern before time left finishes) where
     -- the ready times as the walk reads them
     abbrev readied : List ℕ
-    readied = take (jobs table) times
+    readied = take n times
 
     -- whether a job waits, by what is left
     abbrev is_waiting_now : ℕ → Bool
     is_waiting_now i = waiting times left time (the_job i)
 
     ready_at : (i : ℕ) → i < jobs table → get_or readied i 0 ≡ ready table i
-    ready_at i l = get_or-take (jobs table) times i 0 l ∙ begun.times_are.each i l
+    ready_at i l = get_or-take n times i 0 (omega (arith, begun.all_jobs)) ∙ begun.times_are.each i l
 
     readied_long : length readied ≡ jobs table
-    readied_long = length-take-le (jobs table) times (omega (arith, begun.good.few_jobs, begun.times_are.long))
+    readied_long = length-take-le n times (omega (arith, begun.all_jobs, begun.good.few_jobs, begun.times_are.long)) ∙ begun.all_jobs
 
     -- each of the jobs sorted by urgency has a place in both arrays
-    pub places : All (λ (job : Job). (job.0 < length times) × (job.0 < length left)) (sorted table)
+    pub places : All (λ (job : Job). (job.0 < length times) × (job.0 < length left)) order
     places r d l =
-        let below = sorted_below table begun.good.few_jobs r d l in
+        let below = rw (← begun.order_is) at (sorted_below table begun.good.few_jobs r d (rw begun.order_is at l)) in
         (omega (arith, below, begun.good.few_jobs, begun.times_are.long), omega (arith, below, begun.good.few_jobs, along.all))
 
     -- what waits by what is left waits by the definition
@@ -137,10 +136,10 @@ module _ {table pattern before times : List ℕ} (begun : Begun table pattern be
 
     -- ---- an idle event
 
-    module _ (idle : None ≡ find (waiting times left time) (sorted table)) where
+    module _ (idle : None ≡ find (waiting times left time) order) where
       none_waits : (i : ℕ) → i < jobs table → waits_at table pattern time i ≡ false
       none_waits i l =
-          sym (waits-left i l) ∙ none_at (jobs table) is_waiting_now (none_chosen table begun.good.few_jobs (waiting times left time) idle) i l
+          sym (waits-left i l) ∙ none_at (jobs table) is_waiting_now (none_chosen table begun.good.few_jobs (waiting times left time) (rw begun.order_is at idle)) i l
 
       pub along_idle : {next : ℕ} → ComesNext readied time (Some next) → Along table pattern before next left finishes
       along_idle {next} comes =
@@ -185,12 +184,12 @@ module _ {table pattern before times : List ℕ} (begun : Begun table pattern be
 
     -- ---- a job runs
 
-    module _ {chosen : Job} (picked : Some chosen ≡ find (waiting times left time) (sorted table)) where
+    module _ {chosen : Job} (picked : Some chosen ≡ find (waiting times left time) order) where
       abbrev job : ℕ
       job = chosen.0
 
       most : Foremost table is_waiting_now job
-      most = foremost_is table is_waiting_now job (most_urgent table begun.good.few_jobs (waiting times left time) chosen picked)
+      most = foremost_is table is_waiting_now job (most_urgent table begun.good.few_jobs (waiting times left time) chosen (rw begun.order_is at picked))
 
       is_job : job < jobs table
       is_job = most.is_job

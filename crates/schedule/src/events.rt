@@ -112,12 +112,10 @@ fn pick(sorted: &[Job], times: &[u32], left: &[u32], time: u32) -> Option<Job>
     requires { All (λ job. (job.0 < length times.now) × (job.0 < length left.now)) sorted.now }
     ensures { result ≡ find (waiting times.now left.now time) sorted.now }
 {
-    for job in sorted {
-        if waits(times[job.0], left[job.0], time) {
-            return Some(*job);
-        }
-    }
-    None
+    sorted
+        .iter()
+        .copied()
+        .find(|job| waits(times[job.0], left[job.0], time))
 }
 
 // A job runs to its end or up to the next ready time, whichever comes first. The time then.

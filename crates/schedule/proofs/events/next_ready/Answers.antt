@@ -1,10 +1,7 @@
 -- `schedule::events::next_ready` meets its contract. After some ready times the time is the first of them that is to come. Assumes nothing.
 use native.Mathlib.Omega.{arith}
-use Rattle.schedule.proofs.NextReady.{sought_none, sought_more, sought_all}
+use Rattle.schedule.proofs.NextReady.{sought_more, sought_all}
 use Rattle.schedule.proofs.events.next_ready.Goals as goal
-
-pub loop-ready-init : goal.loop-ready-init
-loop-ready-init c = sought_none c.args.times.now c.args.time
 
 pub loop-ready-preserved : goal.loop-ready-preserved
 loop-ready-preserved c =
