@@ -60,11 +60,11 @@ filled_long sort n g l =
 
 order_long : (table : List ℕ) → length (by_ready table).job ≡ 64
 unfolding by_ready
-order_long table = filled_long the_job (held table) (job_at_turn table) (held_at_most table)
+order_long table = filled_long the_job (held table) (job_at_turn table) (held_at_most (jobs table))
 
 pub ranks_long : (table : List ℕ) → length (by_urgency table).job ≡ 64
 unfolding by_urgency
-ranks_long table = filled_long the_job (held table) (job_at (urgent table) (jobs table)) (held_at_most table)
+ranks_long table = filled_long the_job (held table) (job_at (urgent table) (jobs table)) (held_at_most (jobs table))
 
 -- the turn of a job is the first at which the job is found
 pub found_turn : (table : List ℕ) (order : Arrivals) (n job : ℕ) → order ≡ by_ready table → n ≡ jobs table → n ≤ 64 → job < jobs table
