@@ -21,12 +21,7 @@ fn check_sum(pattern: &[u32]) -> Result<(), Refusal>
 {
     let mut left = MOST_FAULTS;
     for count in pattern {
-        if left < *count {
-            return Err(Refusal {
-                reason: Reason::TooManyFailures,
-                place: 0,
-            });
-        }
+        given(left < *count, Reason::TooManyFailures, 0)?;
         left -= *count;
     }
     Ok(())
