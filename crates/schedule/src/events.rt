@@ -10,7 +10,7 @@ ghost use Rattle.frame.specs.Latest.{AtMost};
 ghost use Rattle.schedule.specs.Asks.{Scheduled, fill, wrong_pattern, too_many_failures, short_buffer, fault_free_finishes};
 ghost use Rattle.schedule.specs.Events.{to_come, ComesNext, waiting, Fits, Ran};
 
-use jobs::{Job, MOST_FAULTS, MOST_JOBS, Reason, Refusal, Table, given};
+use jobs::{Job, MOST_FAULTS, Reason, Refusal, Table, given};
 
 // No job becomes ready at this time or later.
 const NEVER: u32 = 10_000_000;
@@ -21,12 +21,7 @@ fn check_sum(pattern: &[u32]) -> Result<(), Refusal>
 {
     let mut left = MOST_FAULTS;
     for count in pattern {
-        if left < *count {
-            return Err(Refusal {
-                reason: Reason::TooManyFailures,
-                place: 0,
-            });
-        }
+        given(left < *count, Reason::TooManyFailures, 0)?;
         left -= *count;
     }
     Ok(())
@@ -100,7 +95,7 @@ fn next_ready(times: &[u32], time: u32) -> Option<u32>
     (next < NEVER).then_some(next)
 }
 
-// Whether a job with this ready time and this much left waits. Both are read at once, and tested without a branch.
+// Whether a job with this ready time and this much left waits. Both numbers are read before the test, so that it takes one branch.
 fn waits(ready: u32, left: u32, time: u32) -> bool
     ensures { result ≡ leb ready time && ltb 0 left }
 {
@@ -112,10 +107,12 @@ fn pick(sorted: &[Job], times: &[u32], left: &[u32], time: u32) -> Option<Job>
     requires { All (λ job. (job.0 < length times.now) × (job.0 < length left.now)) sorted.now }
     ensures { result ≡ find (waiting times.now left.now time) sorted.now }
 {
-    sorted
-        .iter()
-        .copied()
-        .find(|job| waits(times[job.0], left[job.0], time))
+    for job in sorted {
+        if waits(times[job.0], left[job.0], time) {
+            return Some(*job);
+        }
+    }
+    None
 }
 
 // A job runs to its end or up to the next ready time, whichever comes first. The time then.
