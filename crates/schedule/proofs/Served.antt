@@ -27,7 +27,7 @@ module _ (table : List ℕ) (few : jobs table ≤ 64) {jobs_by_ready : List Job}
   unfolding by_ready
   all_arrive =
       ap (λ xs. length xs) e
-      ∙ length-take-le (jobs table) _ (omega (arith, length-filled the_job (held table) (job_at (earlier table) (jobs table)) (held_at_most table), held_at_most table, few))
+      ∙ length-take-le (jobs table) _ (omega (arith, length-filled the_job (held table) (job_at (earlier table) (jobs table)) (held_at_most (jobs table)), held_at_most (jobs table), few))
 
   -- the job at i in the order of ready times
   pub job_arrives : (i : ℕ) (d : Job) → i < jobs table → get_or jobs_by_ready i d ≡ the_job (arrival table i)
