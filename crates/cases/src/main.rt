@@ -9,7 +9,7 @@ mod say;
 use ask::{
     delayed, free, judged, pattern, reached, read, rewritten, scheduled, shown, without_head,
 };
-use std::io;
+use std::{array, io};
 
 // The table of cases 4, 5, 6, 13 and 16, and that of case 7.
 const CASE_5: [u32; 8] = [0, 3, 20, 2, 4, 1, 15, 5];
@@ -18,25 +18,15 @@ const CASE_7: [u32; 8] = [0, 3, 20, 2, 4, 1, 14, 5];
 
 // Case 1: no jobs, any k.
 fn no_jobs(rt: &impl Print) -> io::Result<()> {
-    let table = [0u32; 0];
-    let mut k: u32 = 0;
-    while k < 9 {
-        judged(rt, 1, &table, k)?;
-        k += 1;
+    for k in 0..=8 {
+        judged(rt, 1, &[], k)?;
     }
     Ok(())
 }
 
 // The table of case 17: (0, 1, 72, 1) 64 times.
 fn full_table() -> [u32; 256] {
-    let mut table = [1; 256];
-    let mut job = 0;
-    while job < 64 {
-        table[4 * job] = 0;
-        table[4 * job + 2] = 72;
-        job += 1;
-    }
-    table
+    array::from_fn(|i| [0, 1, 72, 1][i % 4])
 }
 
 // Cases 2 to 9.
@@ -81,9 +71,8 @@ fn limits(rt: &impl Print) -> io::Result<()> {
 
 // 02's T-01, a file without a head: the job of case 14, and no bytes.
 fn headless(rt: &impl Print) -> io::Result<()> {
-    let none = [0u8; 0];
     without_head(rt, b"\x12\0\x02\0\0\0\0\0\x02\0\0\0\x04\0\0\0\x01\0\0\0")?;
-    without_head(rt, &none)
+    without_head(rt, b"")
 }
 
 fn main(rt: HostRuntime) -> io::Result<()> {

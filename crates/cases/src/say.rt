@@ -1,118 +1,130 @@
-// What the lines are made of.
+// What the lines are made of. Each piece starts with a space.
 use frame::Verdict;
-use jobs::Job;
-use std::io;
-use std::io::Write;
+use jobfile::Contents;
+use jobs::{Job, Refusal};
+use std::fmt;
+use std::fmt::{Display, Formatter};
 
-pub(crate) fn say(rt: &impl Print, text: &[u8]) -> io::Result<()> {
-    io::writer(rt).write_all(text)
-}
+// An answer, or the refusal.
+#[derive(Drop)]
+pub(crate) struct Answer<T>(pub(crate) Result<T, Refusal>);
 
-pub(crate) fn say_number(rt: &impl Print, value: u32) -> io::Result<()> {
-    print!(rt; "{value}")
-}
-
-pub(crate) fn say_place(rt: &impl Print, place: usize) -> io::Result<()> {
-    print!(rt; "{place}")
-}
-
-// A number with its sign.
-fn say_signed(rt: &impl Print, value: i64) -> io::Result<()> {
-    print!(rt; "{value}")
-}
-
-// One of some words, with a space before it.
-pub(crate) fn say_word(rt: &impl Print, values: &[u32], i: usize) -> io::Result<()> {
-    if i < values.len() {
-        say(rt, b" ")?;
-        say_number(rt, values[i])?;
-    }
-    Ok(())
-}
-
-// The first n of some words.
-pub(crate) fn say_words(rt: &impl Print, values: &[u32], n: usize) -> io::Result<()> {
-    let mut i = 0;
-    while i < n {
-        say_word(rt, values, i)?;
-        i += 1;
-    }
-    Ok(())
-}
-
-// A byte as two hexadecimal digits.
-fn say_digits(rt: &impl Print, value: u8) -> io::Result<()> {
-    print!(rt; "{value:02x}")
-}
-
-// One of some bytes, with a space before it.
-fn say_byte(rt: &impl Print, file: &[u8], i: usize) -> io::Result<()> {
-    if i < file.len() {
-        say(rt, b" ")?;
-        say_digits(rt, file[i])?;
-    }
-    Ok(())
-}
-
-// The first n of some bytes.
-pub(crate) fn say_bytes(rt: &impl Print, file: &[u8], n: usize) -> io::Result<()> {
-    let mut i = 0;
-    while i < n {
-        say_byte(rt, file, i)?;
-        i += 1;
-    }
-    Ok(())
-}
-
-// The margin of one job, with a space before it.
-fn say_margin(rt: &impl Print, table: &[u32], latest: &[u32], i: usize) -> io::Result<()> {
-    if i < latest.len() {
-        say(rt, b" ")?;
-        say_signed(rt, judge::margin(table, Job(i), latest[i]))?;
-    }
-    Ok(())
-}
-
-// The margin of each job.
-pub(crate) fn say_margins(rt: &impl Print, table: &[u32], latest: &[u32]) -> io::Result<()> {
-    let n = jobs::jobs(table);
-    let mut i = 0;
-    while i < n {
-        say_margin(rt, table, latest, i)?;
-        i += 1;
-    }
-    Ok(())
-}
-
-pub(crate) fn say_refused(rt: &impl Print, number: u32, place: usize) -> io::Result<()> {
-    say(rt, b" refused ")?;
-    say_number(rt, number)?;
-    say(rt, b" at ")?;
-    say_place(rt, place)
-}
-
-// The verdict: sound, or miss with the job and its latest finish.
-pub(crate) fn say_verdict(rt: &impl Print, verdict: Verdict) -> io::Result<()> {
-    match verdict {
-        Verdict::Sound => say(rt, b" sound"),
-        Verdict::Miss(job, latest) => {
-            say(rt, b" miss, job ")?;
-            say_place(rt, job.0)?;
-            say(rt, b", latest ")?;
-            say_number(rt, latest)
+impl<T: Display> Display for Answer<T> {
+    fn fmt<W: fmt::Write>(&self, f: &mut Formatter<W>) -> fmt::Result {
+        match &self.0 {
+            Ok(answer) => write!(f, "{answer}"),
+            Err(refusal) => write!(f, " {refusal}"),
         }
     }
 }
 
-// On a miss, the named job's finish.
-pub(crate) fn say_named(rt: &impl Print, verdict: Verdict, finishes: &[u32]) -> io::Result<()> {
-    match verdict {
-        Verdict::Sound => say(rt, b" sound"),
-        Verdict::Miss(job, _) => {
-            say(rt, b" job ")?;
-            say_place(rt, job.0)?;
-            say(rt, b" finishes at")?;
-            say_word(rt, finishes, job.0)
+// Words under their name.
+#[derive(Clone, Copy)]
+pub(crate) struct Words<'a>(pub(crate) &'a str, pub(crate) &'a [u32]);
+
+impl Display for Words<'_> {
+    fn fmt<W: fmt::Write>(&self, f: &mut Formatter<W>) -> fmt::Result {
+        let Words(name, words) = self;
+        write!(f, " {name}")?;
+        for word in words.iter() {
+            write!(f, " {word}")?;
         }
+        Ok(())
+    }
+}
+
+// Bytes, each as two hexadecimal digits.
+#[derive(Clone, Copy)]
+pub(crate) struct Bytes<'a>(pub(crate) &'a [u8]);
+
+impl Display for Bytes<'_> {
+    fn fmt<W: fmt::Write>(&self, f: &mut Formatter<W>) -> fmt::Result {
+        for byte in self.0 {
+            write!(f, " {byte:02x}")?;
+        }
+        Ok(())
+    }
+}
+
+// The margins of a table's jobs, by their latest finishes.
+#[derive(Clone, Copy)]
+struct Margins<'a>(&'a [u32], &'a [u32]);
+
+impl Display for Margins<'_> {
+    fn fmt<W: fmt::Write>(&self, f: &mut Formatter<W>) -> fmt::Result {
+        let Margins(table, latest) = self;
+        write!(f, " margins")?;
+        for (job, latest) in latest.iter().enumerate() {
+            write!(f, " {}", judge::margin(table, Job(job), *latest))?;
+        }
+        Ok(())
+    }
+}
+
+// What the judge says of a table: the jobs' latest finishes and margins, if there are jobs, and the verdict.
+#[derive(Clone, Copy)]
+pub(crate) struct Judging<'a> {
+    pub(crate) table: &'a [u32],
+    pub(crate) latest: &'a [u32],
+    pub(crate) verdict: Verdict,
+}
+
+impl Display for Judging<'_> {
+    fn fmt<W: fmt::Write>(&self, f: &mut Formatter<W>) -> fmt::Result {
+        if !self.latest.is_empty() {
+            write!(
+                f,
+                "{},{},",
+                Words("latest", self.latest),
+                Margins(self.table, self.latest)
+            )?;
+        }
+        match self.verdict {
+            Verdict::Sound => write!(f, " sound"),
+            Verdict::Miss(job, latest) => write!(f, " miss, job {}, latest {latest}", job.0),
+        }
+    }
+}
+
+// The number of free slots.
+#[derive(Clone, Copy)]
+pub(crate) struct Slots(pub(crate) u32);
+
+impl Display for Slots {
+    fn fmt<W: fmt::Write>(&self, f: &mut Formatter<W>) -> fmt::Result {
+        write!(f, " free slots {}", self.0)
+    }
+}
+
+// Under a pattern: on a miss, the named job's finish.
+#[derive(Clone, Copy)]
+pub(crate) struct Shown<'a>(pub(crate) Verdict, pub(crate) &'a [u32]);
+
+impl Display for Shown<'_> {
+    fn fmt<W: fmt::Write>(&self, f: &mut Formatter<W>) -> fmt::Result {
+        write!(f, " under the pattern")?;
+        let Verdict::Miss(job, _) = self.0 else {
+            return write!(f, " sound");
+        };
+        write!(f, " job {} finishes at", job.0)?;
+        match self.1.get(job.0) {
+            Some(finish) => write!(f, " {finish}"),
+            None => Ok(()),
+        }
+    }
+}
+
+// What a file of at most one job holds: k, the number of jobs and the row.
+#[derive(Clone, Copy)]
+pub(crate) struct File<'a>(pub(crate) Contents, pub(crate) &'a [u32]);
+
+impl Display for File<'_> {
+    fn fmt<W: fmt::Write>(&self, f: &mut Formatter<W>) -> fmt::Result {
+        let File(Contents { n, k }, table) = self;
+        write!(f, " k {k}, jobs {n}")?;
+        if 0 < *n {
+            write!(f, ",{}", Words("row", table))?;
+        }
+        Ok(())
     }
 }

@@ -8,14 +8,12 @@ use native.Mathlib.Omega.{arith}
 use mathlib.Core.Path.{◌≡◌, refl, sym, ap, ◌∙◌}
 use mathlib.Core.Logic.{⊎_elim}
 use mathlib.Core.Bool.{Bool, true, false, cond, ◌&&◌, or-true, true≢false, false≢true}
-use mathlib.Core.List.{List, [], ◌∷◌}
-use lib.ListN.{length, get_or, take, length-append, get_or-append}
+use mathlib.Core.List.{[], ◌∷◌}
+use lib.ListN.{length, get_or, length-append, get_or-append}
 use lib.Seq.{get_or_at}
 use lib.Dec.{ltb, eqb}
 use mir.Val.{bool_byte}
 use borrow.Author.Tests.{ltb-true, ltb-false, eqb-true, eqb-false, eq-eqb, ne_eqb}
-use Rattle.std.specs.List.{count_by}
-use Rattle.std.proofs.lemmas.List.Sums.{count_by_more_yes, count_by_more_no}
 use Rattle.jobs.specs.Below.{total, count, greatest, some, least, listed}
 
 -- ---- tests
@@ -182,6 +180,20 @@ pub count_same : (n : ℕ) (p q : ℕ → Bool) → ((i : ℕ) → i < n → p i
 unfolding count
 count_same n p q h = total_same n _ _ (λ i l. ap (λ b. cond b 1 0) (h i l))
 
+-- what holds of the numbers below n, and a value for n
+abbrev pub with_next : (ℕ → Bool) → ℕ → Bool → ℕ → Bool
+with_next holds n next i = cond (eqb i n) next (holds i)
+
+pub with_next_below : (holds : ℕ → Bool) (n : ℕ) (next : Bool) (i : ℕ) → i < n → with_next holds n next i ≡ holds i
+with_next_below holds n next i l = rw (ne_eqb i n (λ e. omega arith))
+
+pub with_next_at : (holds : ℕ → Bool) (n : ℕ) (next : Bool) → with_next holds n next n ≡ next
+with_next_at holds n next = rw (eq-eqb n n refl)
+
+pub counted_next : (holds : ℕ → Bool) (sum n : ℕ) (next : Bool) → sum ≡ count n holds → sum + bool_byte next ≡ count (n + 1) (with_next holds n next)
+counted_next holds sum n next e =
+    counted_more (with_next holds n next) sum n next (e ∙ count_same n holds (with_next holds n next) (λ i l. sym (with_next_below holds n next i l))) (sym (with_next_at holds n next))
+
 -- at most one has p
 pub count_unique : (n : ℕ) (p : ℕ → Bool) → ((i j : ℕ) → i < n → j < n → p i ≡ true → p j ≡ true → i ≡ j) → count n p ≤ 1
 unfolding count total
@@ -203,17 +215,6 @@ count_positive n p h =
 pub count_at : (n : ℕ) (p : ℕ → Bool) (i : ℕ) → i < n → p i ≡ true → 0 < count n p
 count_at n p i l e =
     omega (arith, count_less n (λ j. false) p i l refl e (λ j m f. absurd (false≢true f)))
-
--- how many items of a list have p, by their indices
-pub counted_by : (p : ℕ → Bool) (xs : List ℕ) (n : ℕ) → n ≤ length xs → count_by p (take n xs) ≡ count n (λ i. p (get_or xs i 0))
-unfolding count total
-counted_by p xs zero h = refl
-counted_by p xs (suc n) h =
-    let inside : n < length xs = omega arith in
-    let so_far = counted_by p xs n (omega arith) in
-    by_cases (p (get_or xs n 0))
-    (λ e. (rw add-one at (count_by_more_yes p xs n 0 inside e)) ∙ rw e (ap (λ m. m + 1) so_far))
-    (λ e. (rw add-one at (count_by_more_no p xs n 0 inside e)) ∙ so_far ∙ rw e (omega arith))
 
 -- ---- all different
 

@@ -1,12 +1,14 @@
 -- Laws of the promises of judge and pattern of one job.
 --
--- In order: the refusals taken apart; a pattern that is handed out; each promise in either case; that two results which a promise allows are
--- equal, the pattern's buffer too unless a pattern is handed out. Assumes nothing.
+-- In order: the judge's refusals taken apart; a pattern that is handed out; that two results which a promise allows are equal, the pattern's
+-- buffer too unless a pattern is handed out. Assumes nothing.
 use Prim.Native.Nat.{ℕ, zero, suc, ◌≤◌, ◌<◌}
 use native.Mathlib.Omega.{arith}
 use mathlib.Core.Path.{◌≡◌, refl, sym, ap, ◌∙◌}
 use mathlib.Core.List.{List, [], ◌∷◌, ◌++◌}
-use lib.ListN.{length, get_or, drop}
+use lib.ListN.{length, get_or, take, drop, length-take}
+use lib.Seq.{ext_get_or}
+use Rattle.std.proofs.lemmas.List.{get_or-take}
 use borrow.Author.Tests.{ltb-true, ltb-false, not-false}
 use Rattle.std.specs.Prelude.{Result, Ok, Err}
 use Rattle.jobs.specs.Below.{listed}
@@ -39,53 +41,6 @@ pub judge_refusals_lem : (table : List ℕ) (k finishes pattern : ℕ) → first
     ≡ after (first (table_refusals table)) (after (too_many_faults k) (after (short_buffer table finishes) (short_pattern table pattern)))
 judge_refusals_lem table k finishes pattern = three_more table (too_many_faults k) (short_buffer table finishes) (short_pattern table pattern)
 
-pub pattern_refusals_lem : (table : List ℕ) (k job pattern : ℕ) → first (pattern_refusals table k job pattern)
-    ≡ after (first (table_refusals table)) (after (too_many_faults k) (after (no_such_job table job) (short_pattern table pattern)))
-pattern_refusals_lem table k job pattern = three_more table (too_many_faults k) (no_such_job table job) (short_pattern table pattern)
-
--- what is not refused
-pub record Accepted (table : List ℕ) (k finishes pattern : ℕ) : Type 0 where
-  pub good : first (table_refusals table) ≡ fine
-  pub few : k < 9
-  pub room : jobs table ≤ finishes
-  pub space : jobs table ≤ pattern
-
-pub judge_accepts : (table : List ℕ) (k finishes pattern : ℕ) → first (judge_refusals table k finishes pattern) ≡ fine → Accepted table k finishes pattern
-judge_accepts table k finishes pattern none =
-    let a = after_fine (first (table_refusals table)) _ (sym (judge_refusals_lem table k finishes pattern) ∙ none) in
-    let b = after_fine (too_many_faults k) _ a.1 in
-    let c = after_fine (short_buffer table finishes) _ b.1 in
-    let few : k ≤ 8 = ltb-false _ _ (not-given _ TooManyFaults 0 b.0) in
-    record {
-      good = a.0;
-      few = omega arith;
-      room = ltb-false _ _ (not-given _ ShortBuffer (jobs table) c.0);
-      space = ltb-false _ _ (not-given _ WrongPattern (jobs table) c.1);
-    }
-
-pub record AcceptedOne (table : List ℕ) (k job pattern : ℕ) : Type 0 where
-  pub good : first (table_refusals table) ≡ fine
-  pub few : k < 9
-  pub is_job : job < jobs table
-  pub space : jobs table ≤ pattern
-
-pub pattern_accepts : (table : List ℕ) (k job pattern : ℕ) → first (pattern_refusals table k job pattern) ≡ fine → AcceptedOne table k job pattern
-pattern_accepts table k job pattern none =
-    let a = after_fine (first (table_refusals table)) _ (sym (pattern_refusals_lem table k job pattern) ∙ none) in
-    let b = after_fine (too_many_faults k) _ a.1 in
-    let c = after_fine (no_such_job table job) _ b.1 in
-    let few : k ≤ 8 = ltb-false _ _ (not-given _ TooManyFaults 0 b.0) in
-    record {
-      good = a.0;
-      few = omega arith;
-      is_job = ltb-true _ _ (not-false _ (not-given _ NoSuchJob 0 c.0));
-      space = ltb-false _ _ (not-given _ WrongPattern (jobs table) c.1);
-    }
-
--- a table that is not refused has at most 64 jobs
-pub few_jobs : (table : List ℕ) (n : ℕ) → first (table_refusals table) ≡ fine → n ≡ jobs table → n ≤ 64
-few_jobs table n is_good e = omega (arith, (good table is_good).few_jobs)
-
 -- ---- a pattern that is handed out
 
 pub counts_handed : (table : List ℕ) (k job : ℕ) (counts before after : List ℕ) → first (table_refusals table) ≡ fine → job < jobs table → Unwound table k job counts
@@ -105,6 +60,14 @@ unfolding listed
 listed_same zero f g h = refl
 listed_same (suc n) f g h = rw (listed_same n f g (λ i l. h i (omega arith)), h n (omega arith))
 
+-- the first n words of an array, as the list of its values
+pub take_listed : (xs : List ℕ) (n : ℕ) → n ≤ length xs → take n xs ≡ listed n (values xs)
+take_listed xs n l =
+    ext_get_or 0 (take n xs) (listed n (values xs)) (omega (arith, length-take n xs, length-listed n (values xs)))
+    (λ i m.
+    let below : i < n = omega (arith, length-take n xs) in
+    get_or-take n xs i 0 below ∙ sym (get_or-listed n (values xs) 0 i below))
+
 pub fill_same : (n : ℕ) (f g : ℕ → ℕ) (buffer : List ℕ) → ((i : ℕ) → i < n → f i ≡ g i) → fill n f buffer ≡ fill n g buffer
 unfolding fill
 fill_same n f g buffer h = ap (λ xs. xs ++ drop n buffer) (listed_same n f g h)
@@ -115,27 +78,6 @@ handed_for table k Sound counts before after is_good e c f =
     f ∙ fill_same (jobs table) (values counts) (λ job. 0) before (λ i l. ap (λ (xs : List ℕ). get_or xs i 0) c ∙ zeros_at 64 i)
 handed_for table k (Miss job time) counts before after is_good e c f =
     counts_handed table k job.0 counts before after is_good (named_below table k (Miss job time) job time e refl) c f
-
--- ---- the promises
-
-module _ (table : List ℕ) (k : ℕ) (finishes pattern : List ℕ) where
-  pub judging_fine : (finishes' pattern' : List ℕ) (v : Verdict) → first (judge_refusals table k (length finishes) (length pattern)) ≡ fine → v ≡ verdict table k
-      → finishes' ≡ fill (jobs table) (latest table k) finishes → HandedFor table k v pattern pattern' → Judging table k finishes finishes' pattern pattern' (Ok v)
-  judging_fine finishes' pattern' v none e f h =
-      record { answers = rw none (ap Ok e); fills = rw none f; hands = rw (none, ← e) h }
-
-  pub judging_refused : (refusal : Refusal) → first (judge_refusals table k (length finishes) (length pattern)) ≡ Err refusal
-      → Judging table k finishes finishes pattern pattern (Err refusal)
-  judging_refused refusal e = record { answers = rw e; fills = rw e; hands = rw e refl }
-
-module _ (table : List ℕ) (k job : ℕ) (pattern : List ℕ) where
-  pub reaching_fine : (pattern' : List ℕ) → first (pattern_refusals table k job (length pattern)) ≡ fine → Handed table k job pattern pattern'
-      → Reaching table k job pattern pattern' fine
-  reaching_fine pattern' none h = record { answers = sym none; hands = rw none h }
-
-  pub reaching_refused : (refusal : Refusal) → first (pattern_refusals table k job (length pattern)) ≡ Err refusal
-      → Reaching table k job pattern pattern (Err refusal)
-  reaching_refused refusal e = record { answers = sym e; hands = rw e refl }
 
 -- ---- two results are equal
 

@@ -6,8 +6,9 @@ use native.Mathlib.Omega.{arith}
 use mathlib.Core.Path.{◌≡◌, sym, ap, ◌∙◌, subst}
 use mathlib.Core.Bool.{true, false, true≢false}
 use mathlib.Core.List.{List}
-use lib.ListN.{length, get_or, set, replicate, length-set, length-replicate}
+use lib.ListN.{length, get_or, set, take, replicate, length-take, length-set, length-replicate}
 use lib.Seq.{get_or-set_same, get_or-set_other}
+use Rattle.std.proofs.lemmas.List.{get_or-take}
 use lib.Dec.{eqb}
 use borrow.Author.Tests.{ltb-false, lt-ltb, le-ltb, eqb-true, eqb-false}
 use borrow.Author.Count.{below_more}
@@ -25,6 +26,7 @@ use Rattle.frame.specs.declared.Verdict.TheVariants.{Sound, Miss}
 use Rattle.frame.proofs.Work.{arrivals}
 use Rattle.frame.proofs.Verdicts.{misses, misses_is, foremost-named, meets_sound}
 use Rattle.latest.proofs.Walk.{job_at_turn}
+use Rattle.judge.proofs.ByTurn.{ranks_long}
 
 -- ---- latest finishes by turn
 
@@ -55,7 +57,7 @@ module _ (table : List ℕ) (k : ℕ) where
             (λ i. absurd (eqb-false _ _ s (ap (job_at_turn table) i ∙ sym e))));
       }
 
-  pub late_all : (n q : ℕ) (late : List ℕ) → n ≡ jobs table → n ≤ q → LateTo table k q late → Holds 64 late n (latest table k)
+  pub late_all : (n q : ℕ) (late : List ℕ) → n ≡ jobs table → n ≤ q → LateTo table k q late → Holds 64 late (jobs table) (latest table k)
   late_all n q late e l h =
       record {
         long = h.long;
@@ -126,10 +128,23 @@ module _ (table : List ℕ) (k : ℕ) where
       let found = subst (λ (j : ℕ). misses table k j ≡ false) (o.at_number job m) (met (position (urgent table) (jobs table) job) (omega (arith, o.number_below job m))) in
       ltb-false _ _ (sym (misses_is table k job) ∙ found))
 
-  -- the job of a rank, as the order that is handed over has it
-  pub rank_job : (ranking : Ranking) (n r : ℕ) → ranking ≡ by_urgency table → n ≡ jobs table → n ≤ 64 → r < n → get_or ranking.job r (the_job 0) ≡ the_job (of_rank r)
-  rank_job ranking n r e f l m = ap (λ (o : Ranking). get_or o.job r (the_job 0)) e ∙ job_of_rank table (omega arith) r (the_job 0) (omega arith)
+  -- the job of a rank, as the first n entries of the order have it
+  module _ (by_rank : List Job) (n r : ℕ) (is : by_rank ≡ (by_urgency table).job) (all : n ≡ jobs table) (few : n ≤ 64) where
+    long : length by_rank ≡ 64
+    long = ap length is ∙ ranks_long table
 
-  pub rank_job_below : (ranking : Ranking) (n r : ℕ) → ranking ≡ by_urgency table → n ≡ jobs table → n ≤ 64 → r < n → (get_or ranking.job r (the_job 0)).0 < n
-  rank_job_below ranking n r e f l m =
-      omega (arith, ap (λ (j : Job). j.0) (rank_job ranking n r e f l m), job_at_below (urgent table) (urgency_order table) (jobs table) r (omega arith))
+    module _ (l : r < length (take n by_rank)) where
+      pub taken_rank : r < jobs table
+      taken_rank = omega (arith, length-take n by_rank, long, all, few, l)
+
+      pub taken_job : get_or (take n by_rank) r (the_job 0) ≡ the_job (of_rank r)
+      taken_job =
+          get_or-take n by_rank r (the_job 0) (omega (arith, taken_rank))
+          ∙ ap (λ (xs : List Job). get_or xs r (the_job 0)) is
+          ∙ job_of_rank table (omega arith) r (the_job 0) taken_rank
+
+      pub taken_is_job : (get_or (take n by_rank) r (the_job 0)).0 < jobs table
+      taken_is_job = omega (arith, ap (λ (j : Job). j.0) taken_job, job_at_below (urgent table) (urgency_order table) (jobs table) r taken_rank)
+
+    pub taken_all : length (take n by_rank) ≤ r → jobs table ≤ r
+    taken_all m = omega (arith, length-take n by_rank, long)

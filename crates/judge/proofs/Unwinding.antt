@@ -2,7 +2,7 @@
 -- are what the walk has left to unwind. Assumes nothing.
 use Prim.Native.Nat.{ℕ, zero, suc, ◌-◌, ◌≤◌, ◌<◌}
 use native.Mathlib.Omega.{arith}
-use mathlib.Core.Path.{◌≡◌, refl, sym, ap, ◌∙◌}
+use mathlib.Core.Path.{◌≡◌, refl, sym, ap, ◌∙◌, subst}
 use mathlib.Core.Bool.{cond}
 use mathlib.Core.List.{List}
 use lib.ListN.{length, get_or, set, replicate, length-set, length-replicate, get_or-replicate, get_or-eq_default}
@@ -15,8 +15,7 @@ use Rattle.frame.proofs.Work.{arrivals, turn}
 use Rattle.latest.proofs.Walk.{job_at_turn, Walk, stops, stop, faults_at, unwind, best, walk_of}
 use Rattle.latest.proofs.Rows.{faults_within}
 use Rattle.judge.specs.Notes.{TrailOf, Unwound}
-use Rattle.judge.specs.declared.trail.Picks.{Picks}
-use Rattle.judge.specs.declared.trail.Trail.{Trail}
+use Rattle.judge.specs.declared.turns.Walk.{Walk as Trail}
 
 -- past the turns that are unwound there are no faults
 unwind_past : (walk : Walk) (p w q : ℕ) → p ≤ q → unwind walk p w q ≡ 0
@@ -38,6 +37,10 @@ zeros_at size i =
     by_cases (ltb i size)
     (λ l. get_or-replicate {A = ℕ} size i 0 0 (ltb-true i size l))
     (λ l. get_or-eq_default (replicate size 0) 0 (omega (arith, length-replicate {A = ℕ} size 0, ltb-false i size l)))
+
+-- the notes of a walk over a table, by the table's other name
+pub trail_here : {table value : List ℕ} {trail : Trail} (k own : ℕ) → table ≡ value → TrailOf value k (job_at_turn value own) trail → TrailOf table k (job_at_turn table own) trail
+trail_here {trail = trail} k own e t = subst (λ (v : List ℕ). TrailOf v k (job_at_turn v own) trail) (sym e) t
 
 module _ (table : List ℕ) (k job : ℕ) where
   abbrev W : Walk
@@ -62,12 +65,12 @@ module _ (table : List ℕ) (k job : ℕ) where
   pub turn_before : (n p w : ℕ) (counts : List ℕ) → n ≡ jobs table → 0 < p → Unwinding p w counts → p - 1 < n
   turn_before n p w counts e l h = omega (arith, h.turns)
 
-  pub note_is : (trail : Trail) (p w : ℕ) (d : Picks) (counts : List ℕ) → TrailOf table k job trail → 0 < p → w < 9 → Unwinding p w counts
-      → get_or (get_or trail.picks (p - 1) d).of w 0 ≡ faults_at W (p - 1) w
+  pub note_is : (trail : Trail) (p w : ℕ) (d : List ℕ) (counts : List ℕ) → TrailOf table k job trail → 0 < p → w < 9 → Unwinding p w counts
+      → get_or (get_or trail.picks (p - 1) d) w 0 ≡ faults_at W (p - 1) w
   note_is trail p w d counts t l m h = (t.notes (p - 1) d (omega (arith, t.stops_at, h.begun))).each w m
 
-  pub note_within : (trail : Trail) (p w : ℕ) (d : Picks) (counts : List ℕ) → TrailOf table k job trail → 0 < p → w < 9 → Unwinding p w counts
-      → get_or (get_or trail.picks (p - 1) d).of w 0 ≤ w
+  pub note_within : (trail : Trail) (p w : ℕ) (d : List ℕ) (counts : List ℕ) → TrailOf table k job trail → 0 < p → w < 9 → Unwinding p w counts
+      → get_or (get_or trail.picks (p - 1) d) w 0 ≤ w
   note_within trail p w d counts t l m h = omega (arith, note_is trail p w d counts t l m h, faults_within W (p - 1) w)
 
   pub unwinding_none : (p : ℕ) → p ≡ stop W k (jobs table) → Unwinding p k (replicate 64 0)

@@ -1,44 +1,16 @@
-// The report program: a job file from standard input, the report on it to standard output.
+// The report program: a job file from standard input, the report on it to standard output. What cannot be read to its end gets no report, since the jobs that
+// are missing could make it a miss.
 
 #![tactic(auto)]
 
-ghost use Rattle.std.specs.Prelude.{◌≤◌, length};
-
 use report_text::MOST_TEXT;
 use std::io;
-use std::io::{Read, Write};
 
-// Reads until a read brings nothing or fails, or the buffer is full; how many bytes were read.
-fn read_full<R: Read>(input: &mut R, buffer: &mut [u8]) -> usize
-    ensures { result ≤ length buffer.new }
-{
-    let mut n = 0;
-    while n < buffer.len() {
-        match input.read(&mut buffer[n..]) {
-            Ok(got) if 0 < got => n += got,
-            _ => break,
-        }
-    }
-    n
-}
-
-// Whether an input has come to its end. A read that fails says no.
-fn at_end<R: Read>(input: &mut R) -> bool {
-    let mut more = [0u8; 1];
-    matches!(input.read(&mut more), Ok(0))
-}
-
-// What cannot be read to its end gets no report, since the jobs that are missing could make it a miss.
 fn main(rt: HostRuntime) -> io::Result<()> {
-    let mut input = rt.stdin();
-    let mut file = [0u8; 65_536];
-    let n = read_full(&mut input, &mut file);
-    if n < file.len() {
-        if !at_end(&mut input) {
-            return rt.stdout().write_all(b"unreadable\n");
-        }
-    }
-    let mut text = [0u8; MOST_TEXT];
-    let length = report_text::report(&file[..n], &mut text);
-    rt.stdout().write_all(&text[..length])
+    input::answer(
+        &mut rt.stdin(),
+        &mut rt.stdout(),
+        &mut [0; MOST_TEXT],
+        report_text::report,
+    )
 }

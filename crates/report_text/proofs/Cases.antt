@@ -1,5 +1,6 @@
 -- 01's worked reports, proved of the definitions by computing. Assumes nothing.
 use Prim.Native.Nat.{ℕ}
+use lib.Chars.{codes}
 use mathlib.Core.Path.{◌≡◌, refl}
 use mathlib.Core.List.{List, [], ◌∷◌}
 use Rattle.jobs.specs.Below.{total, count, greatest, some, least}
@@ -7,7 +8,7 @@ use Rattle.jobs.specs.Urgency.{by_key, urgent}
 use Rattle.frame.specs.Schedule.{need, foremost, waits, runs, had, horizon, finish, no_faults}
 use Rattle.frame.specs.Latest.{over_patterns, latest, margin, negative, named, verdict}
 use Rattle.frame.specs.Delays.{fault_free}
-use Rattle.text.specs.Text.{ascii, places, decimal, each}
+use Rattle.text.specs.Text.{places, decimal, each}
 use Rattle.report_text.specs.Report.{lines}
 
 -- what computes in the cases
@@ -17,12 +18,12 @@ worked = 0
 
 -- Case 7: the report.
 pub case_7 : let table : List ℕ = 0 ∷ 3 ∷ 20 ∷ 2 ∷ 4 ∷ 1 ∷ 14 ∷ 5 ∷ [] in lines table 2 (verdict table 2) (fault_free table) (latest table 2) (0 ∷ 2 ∷ [])
-    ≡ ascii "k 2 jobs 2 miss 1\n0 3 11 9\n1 5 15 -1\npattern 0 2\n"
+    ≡ codes "k 2 jobs 2 miss 1\n0 3 11 9\n1 5 15 -1\npattern 0 2\n"
 unfolding worked
 case_7 = refl
 
 -- Case 2: sound, the word alone, and no pattern line.
 pub case_2 : let table : List ℕ = 0 ∷ 2 ∷ 4 ∷ 1 ∷ [] in lines table 2 (verdict table 2) (fault_free table) (latest table 2) (0 ∷ [])
-    ≡ ascii "k 2 jobs 1 sound\n0 2 4 0\n"
+    ≡ codes "k 2 jobs 1 sound\n0 2 4 0\n"
 unfolding worked
 case_2 = refl

@@ -12,6 +12,7 @@ use lib.IntN.{sub_ℕ}
 use lib.Dec.{ltb, lit≤, lit<}
 use borrow.Author.Tests.{ltb-true, ltb-false}
 use Rattle.jobs.specs.Table.{jobs, deadline}
+use Rattle.jobs.specs.declared.refusal.Reason.TheVariants.{TooManyFaults}
 use Rattle.jobs.proofs.Below.{by_cases}
 use Rattle.jobs.proofs.Refusals.{Good, good, not-given}
 use Rattle.frame.specs.Latest.{latest, verdict}
@@ -91,11 +92,11 @@ module _ (table : List ℕ) (g : Good table) (k : ℕ) (few : k ≤ 8) where
 -- ---- every report
 
 says_short : (file : List ℕ) (m : Meaning) → meaning file ≡ m → (text : List ℕ) → length file ≤ most_bytes → Says false m text → length text ≤ 2048
-says_short file (refused number place) e text l s =
-    let inside = refused_in_file file number place e in
-    omega (arith, ap length s, (refusal_short number place (omega (arith, inside.high)) (omega (arith, inside.inside))).few)
+says_short file (refused r) e text l s =
+    let inside = refused_in_file file r e in
+    omega (arith, ap length s, (refusal_short r (omega (arith, inside.high)) (omega (arith, inside.inside))).few)
 says_short file (holds table k) e text l s =
-    judged_short table (good table (read_table_fine file table k e)) k (ltb-false 8 k (not-given _ 4 0 (read_faults_fine file table k e))) text s
+    judged_short table (good table (read_table_fine file table k e)) k (ltb-false 8 k (not-given _ TooManyFaults 0 (read_faults_fine file table k e))) text s
 
 pub report_short : (file text : List ℕ) → Says (ltb most_bytes (length file)) (meaning file) text → length text ≤ 2048
 report_short file text s =

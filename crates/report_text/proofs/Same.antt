@@ -16,12 +16,12 @@ use Rattle.report_text.specs.Report.{lines, Judges, Says, Reports}
 -- an input whose report has no pattern line
 abbrev pub NoPattern : Bool → Meaning → Type 0
 NoPattern true m = Unit
-NoPattern false (refused number place) = Unit
+NoPattern false (refused r) = Unit
 NoPattern false (holds table k) = verdict table k ≡ Sound
 
 says_same : (long : Bool) (m : Meaning) (t u : List ℕ) → NoPattern long m → Says long m t → Says long m u → t ≡ u
 says_same true m t u n x y = x ∙ sym y
-says_same false (refused number place) t u n x y = x ∙ sym y
+says_same false (refused r) t u n x y = x ∙ sym y
 says_same false (holds table k) t u n x y = (rw n at x.reads) ∙ sym (rw n at y.reads)
 
 -- with the same pattern the same text

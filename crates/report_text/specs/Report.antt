@@ -1,7 +1,7 @@
 -- The report on a job file, byte for byte.
-use Rattle.std.specs.Prelude.{ℕ, min, ◌≡◌, Bool, true, false, List, [], ◌++◌, length, get_or, ltb, ℤ}
+use Rattle.std.specs.Prelude.{ℕ, min, ◌≡◌, Bool, true, false, List, [], ◌++◌, length, get_or, ltb, ℤ, codes}
 use Rattle.std.proofs.Math.IntN.{sub_ℕ}
-use Rattle.text.specs.Text.{ascii, decimal, labelled, signed, each, refusal, most_bytes, too_long, laid}
+use Rattle.text.specs.Text.{decimal, labelled, signed, each, refusal, most_bytes, too_long, laid}
 use Rattle.jobs.specs.Table.{jobs, deadline}
 use Rattle.frame.specs.Latest.{latest, verdict}
 use Rattle.frame.specs.Delays.{fault_free}
@@ -12,16 +12,16 @@ use Rattle.jobfile.specs.Meaning.{Meaning, holds, refused, meaning}
 
 -- Verdict and named job (sound: the word alone).
 abbrev pub verdict_text : Verdict → List ℕ
-verdict_text Sound = ascii " sound"
+verdict_text Sound = codes " sound"
 verdict_text (Miss job time) = labelled " miss " job.0
 
 -- First line: k, number of jobs, verdict and named job.
 abbrev pub first_line : ℕ → ℕ → Verdict → List ℕ
-first_line k n v = labelled "k " k ++ labelled " jobs " n ++ verdict_text v ++ ascii "\n"
+first_line k n v = labelled "k " k ++ labelled " jobs " n ++ verdict_text v ++ codes "\n"
 
 -- For each job its number, fault-free finish, latest finish, margin.
 abbrev pub job_line : ℕ → ℕ → ℕ → ℤ → List ℕ
-job_line job early late m = decimal job ++ labelled " " early ++ labelled " " late ++ ascii " " ++ signed m ++ ascii "\n"
+job_line job early late m = decimal job ++ labelled " " early ++ labelled " " late ++ codes " " ++ signed m ++ codes "\n"
 
 -- The lines of the first n jobs, from their fault-free finishes and their latest finishes.
 abbrev pub job_lines : List ℕ → (ℕ → ℕ) → (ℕ → ℕ) → ℕ → List ℕ
@@ -30,7 +30,7 @@ job_lines table early late n = each n (λ job. job_line job (early job) (late jo
 -- The pattern line comes only on a miss and gives the judge's counts in job order.
 abbrev pub pattern_line : ℕ → Verdict → List ℕ → List ℕ
 pattern_line n Sound pattern = []
-pattern_line n (Miss job time) pattern = ascii "pattern" ++ each n (λ i. labelled " " (get_or pattern i 0)) ++ ascii "\n"
+pattern_line n (Miss job time) pattern = codes "pattern" ++ each n (λ i. labelled " " (get_or pattern i 0)) ++ codes "\n"
 
 -- The lines of a report, from the verdict, the finishes and a pattern.
 abbrev pub lines : List ℕ → ℕ → Verdict → (ℕ → ℕ) → (ℕ → ℕ) → List ℕ → List ℕ
@@ -46,7 +46,7 @@ pub record Judges (table : List ℕ) (k : ℕ) (text : List ℕ) : Type 0 where
 -- The texts that report on an input: too long, or what the file means.
 abbrev pub Says : Bool → Meaning → List ℕ → Type 0
 Says true m text = text ≡ too_long
-Says false (refused number place) text = text ≡ refusal number place
+Says false (refused r) text = text ≡ refusal r
 Says false (holds table k) text = Judges table k text
 
 -- Report: the text in the lent buffer, and how many bytes of it are there.

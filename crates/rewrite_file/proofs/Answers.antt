@@ -5,14 +5,17 @@ use native.Mathlib.Omega.{arith}
 use mathlib.Core.Path.{◌≡◌, refl, sym, ap, ◌∙◌}
 use mathlib.Core.Bool.{true, false}
 use mathlib.Core.List.{List, [], ◌∷◌, ◌++◌}
-use lib.ListN.{length, get_or, replicate}
-use lib.Dec.{eqb, lit≤}
+use lib.ListN.{length, replicate}
+use lib.Dec.{lit≤}
+use Rattle.std.specs.Prelude.{nat_eq}
+use Rattle.std.specs.List.{starts_with}
 use borrow.Author.Tests.{lt-ltb, le-ltb, eq-eqb, ne_eqb}
 use Rattle.text.specs.Text.{refusal, most_bytes, too_long}
 use Rattle.jobfile.specs.Bytes.{number}
-use Rattle.jobfile.specs.Meaning.{record_at, holds, refused, is_head, headed, headless_k, meaning, Good, ReadsTo}
+use Rattle.jobfile.specs.Meaning.{record_at, holds, refused, is_head, headed, headless_k, meaning, contents, Good, ReadsTo}
 use Rattle.jobfile.specs.declared.Contents.{Contents}
-use Rattle.jobfile.specs.declared.Contents.TheVariants.{Jobs, Refused}
+use Rattle.std.specs.Prelude.{Result, Err}
+use Rattle.jobs.specs.declared.refusal.Refusal.{Refusal}
 use Rattle.jobfile.proofs.Records.{as_head, as_job}
 use Rattle.jobfile.proofs.Walk.{by-record, walk_bad, good_file}
 use Rattle.jobfile_write.specs.Writing.{bytes_of, head_bytes}
@@ -27,9 +30,9 @@ module _ (file : List ℕ) where
   unfolding rewritten
   rewritten_long l = rw (lt-ltb most_bytes (length file) l)
 
-  pub rewritten_refused : (number place : ℕ) → length file ≤ most_bytes → meaning file ≡ refused number place → refusal number place ≡ rewritten file
+  pub rewritten_refused : (r : Refusal) → length file ≤ most_bytes → meaning file ≡ refused r → refusal r ≡ rewritten file
   unfolding rewritten meaning
-  rewritten_refused number place l e = rw (le-ltb most_bytes (length file) l, refused_by_either file old_k headless_k number place e)
+  rewritten_refused r l e = rw (le-ltb most_bytes (length file) l, refused_by_either file old_k headless_k r e)
 
   pub rewritten_good : (table : List ℕ) (k : ℕ) → length file ≤ most_bytes → meaning file ≡ holds table k → with_head file ≡ rewritten file
   unfolding rewritten meaning
@@ -37,29 +40,24 @@ module _ (file : List ℕ) where
 
 -- ---- what reading says of the file, with room for every table
 
-module _ (file : List ℕ) (contents : Contents) (table : List ℕ) (read : ReadsTo file (replicate 256 0) contents table) where
-  pub read_refused : (number place : ℕ) → contents ≡ Refused number place → meaning file ≡ refused number place
-  read_refused number place e = refusal_read file (replicate 256 0) number place table (lit≤ tt) (rw e at read)
+module _ (file : List ℕ) (answer : Result Contents Refusal) (table : List ℕ) (read : ReadsTo file (replicate 256 0) answer table) where
+  pub read_refused : (r : Refusal) → answer ≡ Err r → meaning file ≡ refused r
+  read_refused r e = refusal_read file (replicate 256 0) r table (lit≤ tt) (rw e at read)
 
-  pub read_good : (n k : ℕ) → contents ≡ Jobs n k → Good file 256
+  pub read_good : (n k : ℕ) → answer ≡ contents n k → Good file 256
   read_good n k e = good_file file 256 (length file) n k (sym read.answers ∙ e)
 
 -- ---- whether a good file has a head, and the file with one
 
-pub empty_headless : (file : List ℕ) → length file ≡ 0 → false ≡ headed file
-unfolding record_at
-empty_headless [] e = refl
-empty_headless (b ∷ file) e = absurd (omega arith)
-
-pub headed-first_byte : (file : List ℕ) (room : ℕ) → Good file room → 0 < length file → eqb (get_or file 0 0) 3 ≡ headed file
-unfolding number meaning
-headed-first_byte [] room good l = absurd (omega arith)
-headed-first_byte (b ∷ left) room good l =
+pub headed-first_byte : (file : List ℕ) (room : ℕ) → Good file room → starts_with nat_eq file (3 ∷ []) ≡ headed file
+unfolding number meaning record_at
+headed-first_byte [] room good = refl
+headed-first_byte (b ∷ left) room good =
     by-record (record_at (b ∷ left) 0 0)
-    (λ k r. eq-eqb b 3 (omega (arith, (as_head (b ∷ left) 0 0 k r).long)) ∙ sym (ap is_head r))
-    (λ r. ne_eqb b 3 (λ e. omega (arith, (as_job (b ∷ left) 0 0 r).long)) ∙ sym (ap is_head r))
-    (λ number place r.
-    let bad = walk_bad (b ∷ left) 0 0 headless_k number place (omega arith) r in
+    (λ k r. rw (eq-eqb 3 b (omega (arith, (as_head (b ∷ left) 0 0 k r).long))) (sym (ap is_head r)))
+    (λ r. rw (ne_eqb 3 b (λ e. omega (arith, (as_job (b ∷ left) 0 0 r).long))) (sym (ap is_head r)))
+    (λ own r.
+    let bad = walk_bad (b ∷ left) 0 0 headless_k own (omega arith) r in
     let means = good.means in
     let z : ◌≡◌ {A = ℕ} 0 1 = cc in
     absurd (omega arith))

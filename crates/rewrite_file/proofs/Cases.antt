@@ -1,10 +1,11 @@
 -- Worked files, proved of the definitions by computing: 01's case 14 with and without its head and its last byte, and no bytes. Assumes nothing.
 use Prim.Native.Nat.{ℕ}
+use lib.Chars.{codes}
 use mathlib.Core.Path.{◌≡◌, refl}
 use mathlib.Core.List.{[], ◌++◌}
 use lib.ListN.{take}
 use Rattle.jobs.specs.Below.{some, least}
-use Rattle.text.specs.Text.{ascii, places, decimal}
+use Rattle.text.specs.Text.{places, decimal}
 use Rattle.jobfile.specs.Bytes.{number, words}
 use Rattle.jobfile.specs.Meaning.{head_at, job_at, by_kind, record_at, walk}
 use Rattle.jobfile_write.specs.Writing.{bytes_of, head_bytes}
@@ -32,6 +33,6 @@ unfolding worked
 nothing = refl
 
 -- A refused file gets the report's line.
-pub refused_so : (rewritten (take 24 (head 2 ++ job)) ≡ ascii "refused 20 at 5\n") × (rewritten (job ++ head 1) ≡ ascii "refused 23 at 20\n") × (rewritten (head 9) ≡ ascii "refused 25 at 0\n")
+pub refused_so : (rewritten (take 24 (head 2 ++ job)) ≡ codes "refused 20 at 5\n") × (rewritten (job ++ head 1) ≡ codes "refused 23 at 20\n") × (rewritten (head 9) ≡ codes "refused 25 at 0\n")
 unfolding worked
 refused_so = (refl, refl, refl)

@@ -14,14 +14,15 @@ use Rattle.text.specs.Text.{most_bytes, Adds}
 use Rattle.text.proofs.Adding.{laid_whole, adds-all}
 use Rattle.text.proofs.Lengths.{refusal_short}
 use Rattle.jobs.specs.Table.{jobs}
-use Rattle.jobs.specs.Refusals.{first, table_refusals}
-use Rattle.jobs.specs.declared.Check.TheVariants.{Fine}
+use Rattle.std.specs.Prelude.{Result}
+use Rattle.jobs.specs.Refusals.{fine, first, table_refusals}
+use Rattle.jobs.specs.declared.refusal.Refusal.{Refusal}
+use Rattle.jobs.specs.declared.refusal.Reason.TheVariants.{TooManyFaults}
 use Rattle.jobs.proofs.Below.{by_cases}
 use Rattle.jobs.proofs.Refusals.{good, given-unless, not-given}
 use Rattle.jobfile.specs.Bytes.{over}
-use Rattle.jobfile.specs.Meaning.{Meaning, holds, refused, is_head, headed, headless_k, meaning, ReadsTo}
+use Rattle.jobfile.specs.Meaning.{Meaning, holds, refused, is_head, headed, headless_k, meaning, contents, ReadsTo}
 use Rattle.jobfile.specs.declared.Contents.{Contents}
-use Rattle.jobfile.specs.declared.Contents.TheVariants.{Jobs}
 use Rattle.jobfile.proofs.Records.{head_answers}
 use Rattle.jobfile_write.specs.Writing.{head_bytes, jobs_bytes, file_of}
 use Rattle.jobfile_write.proofs.Lengths.{file_of-length}
@@ -35,9 +36,9 @@ use Rattle.rewrite_file.proofs.Answers.{rewritten_long, rewritten_refused, rewri
 
 -- ---- a file that is refused is so by both rules
 
-pub refused_alike : (file : List ℕ) (number place : ℕ) → (old_meaning file ≡ refused number place) ↔ (meaning file ≡ refused number place)
+pub refused_alike : (file : List ℕ) (r : Refusal) → (old_meaning file ≡ refused r) ↔ (meaning file ≡ refused r)
 unfolding meaning
-refused_alike file number place = (refused_by_either file headless_k old_k number place, refused_by_either file old_k headless_k number place)
+refused_alike file r = (refused_by_either file headless_k old_k r, refused_by_either file old_k headless_k r)
 
 -- ---- a file that is not refused
 
@@ -58,13 +59,13 @@ module _ (file table : List ℕ) (k : ℕ) (meant : old_meaning file ≡ holds t
       let again : holds table k ≡ holds table old_k = sym meant ∙ holds_by_either file old_k old_k table k meant ∙ ap (λ (h : Bool). holds table (cond h k old_k)) t in
       cc
 
-  table_fine : first (table_refusals table) ≡ Fine
+  table_fine : first (table_refusals table) ≡ fine
   table_fine = read_table_fine file table (cond (headed file) k headless_k) means
 
   few : k ≤ 8
   few =
       by_cases (headed file)
-      (λ t. ltb-false 8 k (not-given _ 4 0 (read_faults_fine file table k (rw t at means))))
+      (λ t. ltb-false 8 k (not-given _ TooManyFaults 0 (read_faults_fine file table k (rw t at means))))
       (λ t. omega (arith, k_is t))
 
   module _ (bytes : IsBytes file) where
@@ -87,7 +88,7 @@ module _ (file table : List ℕ) (k : ℕ) (meant : old_meaning file ≡ holds t
     rewritten_is_written = sym (rewritten_good file table _ (omega (arith, short)) means) ∙ with_head-written
 
     written_means : meaning (file_of table k) ≡ holds table k
-    written_means = read_back table k table_fine (given-unless 4 0 (le-ltb 8 k few))
+    written_means = read_back table k table_fine (given-unless TooManyFaults 0 (le-ltb 8 k few))
 
     -- the rewritten file means by today's rule what the file meant by the old one
     pub rewritten_means : meaning (rewritten file) ≡ old_meaning file
@@ -105,10 +106,10 @@ module _ (file table : List ℕ) (k : ℕ) (meant : old_meaning file ≡ holds t
 
 answer_short : (file : List ℕ) (m : Meaning) → IsBytes file → old_meaning file ≡ m → length file ≤ most_bytes → length (rewritten file) ≤ 1285
 answer_short file (holds table k) bytes e l = omega (arith, ap length (rewritten_is_written file table k e bytes), written_short file table k e bytes)
-answer_short file (refused number place) bytes e l =
-    let means = (refused_alike file number place).0 e in
-    let inside = refused_in_file file number place means in
-    omega (arith, ap length (rewritten_refused file number place l means), (refusal_short number place (omega (arith, inside.high)) (omega (arith, inside.inside))).few)
+answer_short file (refused r) bytes e l =
+    let means = (refused_alike file r).0 e in
+    let inside = refused_in_file file r means in
+    omega (arith, ap length (rewritten_refused file r l means), (refusal_short r (omega (arith, inside.high)) (omega (arith, inside.inside))).few)
 
 rewritten_short : (file : List ℕ) → IsBytes file → length (rewritten file) ≤ 1285
 rewritten_short file bytes =
@@ -127,9 +128,9 @@ rewrite_whole file before answer after bytes l a =
 -- What `rewrite` leaves in such a buffer, read: the table and k that the file meant by the old rule.
 pub read_what_was_rewritten : (file table : List ℕ) (k : ℕ) → old_meaning file ≡ holds table k → IsBytes file
     → (before : List ℕ) (answer : ℕ) (after : List ℕ) → 1285 ≤ length before → Adds (rewritten file) before 0 after answer
-    → (room : List ℕ) (contents : Contents) (rows : List ℕ) → ReadsTo (take answer after) room contents rows → length table ≤ length room
-    → (contents ≡ Jobs (jobs table) k) × (rows ≡ over table room)
-read_what_was_rewritten file table k meant bytes before answer after l a room contents rows r h =
+    → (room : List ℕ) (reading : Result Contents Refusal) (rows : List ℕ) → ReadsTo (take answer after) room reading rows → length table ≤ length room
+    → (reading ≡ contents (jobs table) k) × (rows ≡ over table room)
+read_what_was_rewritten file table k meant bytes before answer after l a room reading rows r h =
     let whole = rewrite_whole file before answer after bytes l a in
     let read : take answer after ≡ rewritten file = ap (take answer) whole.1 ∙ take_at (rewritten file) _ answer (sym whole.0) in
     let means : meaning (take answer after) ≡ holds table k = ap meaning read ∙ rewritten_means file table k meant bytes ∙ meant in

@@ -19,7 +19,7 @@ with_head file = cond (headed file) file (head_bytes old_k ++ file)
 -- What is written for an input, by whether it is too long and what it meant: a too long or refused file gets the report's line.
 abbrev pub written_for : Bool → Meaning → List ℕ → List ℕ
 written_for true m file = too_long
-written_for false (refused number place) file = refusal number place
+written_for false (refused r) file = refusal r
 written_for false (holds table k) file = with_head file
 
 -- An input rewritten.

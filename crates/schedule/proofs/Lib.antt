@@ -1,8 +1,8 @@
 pub mod Jumps
 pub mod Fill
-pub mod Sorted
-pub mod NextReady
-pub mod Walk
 pub mod Served
+pub mod NextReady
+pub mod Sorted
+pub mod Walk
 pub mod Asks
 pub mod FaultFree

@@ -1,71 +1,58 @@
--- The ready times as the walk reads them, and the next of them after a time: no job becomes ready before it, and one does then, unless none is
--- to come. Each law is an induction on the number of jobs.
---
--- In order: the ready times; the next of them. Assumes nothing.
-use Prim.Native.Nat.{ℕ, zero, suc, ◌+◌, ◌≤◌, ◌<◌, min}
+-- The next ready time after a time, as a loop over the ready times finds it. Assumes nothing.
+use Prim.Native.Nat.{ℕ, ◌+◌, ◌≤◌, ◌<◌, min}
 use native.Mathlib.Numerals.{add-one}
 use native.Mathlib.Omega.{arith}
-use mathlib.Core.Path.{◌≡◌, refl, ap}
-use mathlib.Core.Bool.{◌&&◌}
+use mathlib.Core.Path.{◌≡◌, ap}
 use mathlib.Core.List.{List}
 use lib.ListN.{length, get_or}
-use lib.Dec.{leb, ltb}
+use lib.Dec.{ltb}
 use borrow.Author.Tests.{ltb-true, ltb-false}
-use Rattle.jobs.specs.Table.{jobs, ready}
+use Rattle.std.specs.Bool.{then_some}
 use Rattle.jobs.proofs.Below.{by_cases, below_suc}
-use Rattle.jobs.proofs.Placed.{length-filled, get_or-filled}
-use Rattle.schedule.specs.Events.{ReadyTimes, never, to_come, next_ready, still_waits}
+use Rattle.schedule.specs.Events.{never, to_come, ComesNext}
 
--- ---- the ready times
+module _ (times : List ℕ) (t : ℕ) where
+  -- Of the first n ready times, the first that comes after t; `never`, if none does.
+  pub record Sought (n next : ℕ) : Type 0 where
+    pub most : next ≤ never
+    pub later : (i : ℕ) → i < n → t < get_or times i 0 → next ≤ get_or times i 0
+    pub comes : next < never → (i : ℕ) × (i < n) × (get_or times i 0 ≡ next) × (t < next)
 
-module _ (table times : List ℕ) (r : ReadyTimes table times) where
-  pub times_long : length times ≡ 64
-  times_long = rw r.copied (length-filled (λ x. x) (jobs table) (ready table) r.few)
+  pub sought_none : Sought 0 never
+  sought_none = record { most = omega arith; later = λ i l h. absurd (omega arith); comes = λ h. absurd (omega arith) }
 
-  pub time_of : (job : ℕ) → job < jobs table → get_or times job 0 ≡ ready table job
-  time_of job l = rw r.copied (get_or-filled (λ x. x) (jobs table) (ready table) 0 job l)
+  -- one ready time more, which is to come or is past
+  pub sought_more : (n next : ℕ) → Sought n next → Sought (n + 1) (min next (to_come (get_or times n 0) t))
+  sought_more n next s = by_cases (ltb t (get_or times n 0)) (λ e. rw e (ahead (ltb-true t (get_or times n 0) e))) (λ e. rw e (past (ltb-false t (get_or times n 0) e)))
+    where
+      past : get_or times n 0 ≤ t → Sought (n + 1) (min next never)
+      past h =
+          record {
+            most = omega arith;
+            later = λ i l k. below_suc (rw add-one at l) (λ m. omega (arith, s.later i m k)) (λ m. absurd (omega (arith, ap (λ j. get_or times j 0) m)));
+            comes = λ k. let c = s.comes (omega arith) in (c.0, omega (arith, c.1), omega (arith, c.2, s.most), omega (arith, c.3, s.most));
+          }
 
-  pub waits_by_times : (left : List ℕ) (t job : ℕ) → job < jobs table
-      → (leb (get_or times job 0) t && ltb 0 (get_or left job 0)) ≡ still_waits table left t job
-  unfolding still_waits
-  waits_by_times left t job l = rw (time_of job l)
+      ahead : t < get_or times n 0 → Sought (n + 1) (min next (get_or times n 0))
+      ahead h =
+          record {
+            most = omega (arith, s.most);
+            later = λ i l k. below_suc (rw add-one at l) (λ m. omega (arith, s.later i m k)) (λ m. omega (arith, ap (λ j. get_or times j 0) m));
+            comes =
+                λ k.
+                by_cases (ltb next (get_or times n 0))
+                (λ e.
+                let less = ltb-true next (get_or times n 0) e in
+                let c = s.comes (omega arith) in
+                (c.0, omega (arith, c.1), omega (arith, c.2), omega (arith, c.3)))
+                (λ e. let more = ltb-false next (get_or times n 0) e in (n, omega arith, omega arith, omega arith));
+          }
 
--- ---- the next of them
-
--- a ready time is to come, or it is past
-to_come-cases : {P : Type 0} (r t : ℕ) → (t < r → to_come r t ≡ r → P) → (r ≤ t → to_come r t ≡ never → P) → P
-to_come-cases r t f g = by_cases (ltb t r) (λ a. f (ltb-true t r a) (rw a)) (λ a. g (ltb-false t r a) (rw a))
-
-module _ (table : List ℕ) (t : ℕ) where
-  pub next_none : never ≡ next_ready table t 0
-  unfolding next_ready
-  next_none = refl
-
-  pub next_more : (n next : ℕ) → next ≡ next_ready table t n → min next (to_come (ready table n) t) ≡ next_ready table t (n + 1)
-  unfolding next_ready
-  next_more n next e = rw (add-one, e)
-
-  pub next_later : t < never → (n : ℕ) → t < next_ready table t n
-  unfolding next_ready
-  next_later h zero = h
-  next_later h (suc n) = to_come-cases (ready table n) t (λ a e. omega (arith, next_later h n)) (λ a e. omega (arith, next_later h n))
-
-  -- no job becomes ready before it
-  pub next_quiet : (n i : ℕ) → i < n → t < ready table i → next_ready table t n ≤ ready table i
-  unfolding next_ready
-  next_quiet zero i l h = absurd (omega arith)
-  next_quiet (suc n) i l h =
-      below_suc l
-      (λ k. omega (arith, next_quiet n i k h))
-      (λ q. to_come-cases (ready table n) t (λ a e. omega (arith, ap (ready table) q)) (λ a e. absurd (omega (arith, ap (ready table) q))))
-
-  -- and then one does
-  pub next-comes : (n : ℕ) → next_ready table t n < never → (i : ℕ) × (i < n) × (ready table i ≡ next_ready table t n)
-  unfolding next_ready
-  next-comes zero h = absurd (omega arith)
-  next-comes (suc n) h =
-      let next = next_ready table t n in
-      let came = to_come (ready table n) t in
-      by_cases (ltb came next)
-      (λ b. to_come-cases (ready table n) t (λ a e. (n, omega arith, omega (arith, ltb-true came next b))) (λ a e. absurd (omega (arith, ltb-true came next b))))
-      (λ b. let m = next-comes n (omega (arith, ltb-false came next b)) in (m.0, omega (arith, m.1), omega (arith, m.2, ltb-false came next b)))
+  -- what the loop has found when all ready times are passed
+  pub sought_all : (n next : ℕ) → n ≡ length times → Sought n next → ComesNext times t (then_some (ltb next never) next)
+  sought_all n next e s =
+      by_cases (ltb next never)
+      (λ b.
+      let c = s.comes (ltb-true next never b) in
+      rw b (record { after = c.3; soon = ltb-true next never b; comes = (c.0, omega (arith, c.1), c.2); none_between = record { later = λ i l h. s.later i (omega arith) h } }))
+      (λ b. rw b (record { later = λ i l h. omega (arith, s.later i (omega arith) h, ltb-false next never b) }))

@@ -5,23 +5,37 @@ use native.Mathlib.Numerals.{add-one}
 use native.Mathlib.Omega.{arith}
 use mathlib.Core.Path.{◌≡◌, refl, sym, ap, ◌∙◌}
 use mathlib.Core.List.{List}
-use lib.ListN.{get_or}
+use lib.ListN.{length, get_or, take}
+use Rattle.std.proofs.lemmas.List.{length-take-le, get_or-take}
 use Rattle.jobs.specs.Below.{total}
 use Rattle.jobs.specs.Table.{jobs, ready, run}
-use Rattle.jobs.specs.Orders.{the_job, by_ready}
+use Rattle.jobs.specs.Orders.{the_job, held, by_ready}
 use Rattle.jobs.specs.declared.Job.{Job}
-use Rattle.jobs.specs.declared.Arrivals.{Arrivals}
+use Rattle.jobs.specs.Urgency.{earlier, job_at}
 use Rattle.jobs.proofs.Below.{below_suc}
 use Rattle.jobs.proofs.Refusals.{Good}
-use Rattle.jobs.proofs.Orders.{job-by_ready}
+use Rattle.jobs.proofs.Orders.{held_at_most, job-by_ready}
+use Rattle.jobs.proofs.Placed.{length-filled}
 use Rattle.frame.specs.Schedule.{no_faults}
 use Rattle.frame.proofs.Queue.{ends, ends_bound}
 use Rattle.frame.proofs.Work.{arrival, arrivals, comes_at}
 use Rattle.frame.proofs.FreeSlots.{every_arrival, need_at, idle_before, idle_before_lem, need-no_faults}
 
-pub order_is_arrivals : (table : List ℕ) (order : Arrivals) (i : ℕ) → jobs table ≤ 64 → i < jobs table → order ≡ by_ready table
-    → get_or order.job i (the_job 0) ≡ the_job (arrival table i)
-order_is_arrivals table order i few l e = ap (λ o. get_or o.job i (the_job 0)) e ∙ job-by_ready table few i (the_job 0) l
+module _ (table : List ℕ) (few : jobs table ≤ 64) {jobs_by_ready : List Job} (e : jobs_by_ready ≡ take (jobs table) (by_ready table).job) where
+  -- as many jobs arrive as there are
+  pub all_arrive : length jobs_by_ready ≡ jobs table
+  unfolding by_ready
+  all_arrive =
+      ap (λ xs. length xs) e
+      ∙ length-take-le (jobs table) _ (omega (arith, length-filled the_job (held table) (job_at (earlier table) (jobs table)) (held_at_most table), held_at_most table, few))
+
+  -- the job at i in the order of ready times
+  pub job_arrives : (i : ℕ) (d : Job) → i < jobs table → get_or jobs_by_ready i d ≡ the_job (arrival table i)
+  job_arrives i d l = ap (λ xs. get_or xs i d) e ∙ get_or-take (jobs table) (by_ready table).job i d l ∙ job-by_ready table few i d l
+
+  -- the time at which it comes
+  pub came_at : (i : ℕ) (d : Job) (came : ℕ) → i < jobs table → came ≡ ready table (get_or jobs_by_ready i d).0 → came ≡ comes_at table i
+  came_at i d came l r = r ∙ ap (λ (job : Job). ready table job.0) (job_arrives i d l)
 
 module _ (table : List ℕ) (t : ℕ) where
   -- The first i jobs in the order of ready times were ready before t; served in that order they are done at `until`, and `runs` is the sum of their runs.

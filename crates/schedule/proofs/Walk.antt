@@ -2,39 +2,40 @@
 --
 -- At each event the walk knows what is left to each job of its need, and the finish of each job that has ended (`Along`). A job that waits by what
 -- is left is one that waits by the definition, so the job that is chosen is the one that runs; up to the next ready time it runs on until it ends
--- (run_jump), and an idle processor stays idle (idle_jump). Each event ends a job or makes one ready, or is the last: so there are at most
--- 2n + 1 of them (turns_at_most).
+-- (run_jump), and an idle processor stays idle (idle_jump). Each event ends a job or makes one ready: so there are at most 2n of them (turns_at_most).
 --
--- In order: what the walk knows; the start; an idle event; a job runs; any event; the end. Assumes nothing.
+-- In order: what the walk knows; the start; the next ready time; an idle event; a job runs. Assumes nothing.
 use Prim.Native.Nat.{ℕ, zero, suc, ◌+◌, ◌*◌, ◌-◌, ◌≤◌, ◌<◌}
 use native.Mathlib.Nat.{add-sub_of_le}
 use native.Mathlib.Omega.{arith}
 use mathlib.Core.Path.{◌≡◌, refl, sym, ap, ◌∙◌}
-use mathlib.Core.Bool.{true, false, cond, ◌&&◌, true≢false}
+use mathlib.Core.Bool.{Bool, true, false, ◌&&◌, true≢false}
 use mathlib.Core.List.{List}
-use lib.ListN.{length, get_or, set, length-set}
+use lib.ListN.{length, get_or, set, take, length-set}
 use lib.Seq.{get_or-set_same, get_or-set_other}
 use lib.Dec.{leb, ltb, eqb}
 use borrow.Author.Tests.{ltb-true, ltb-false, lt-ltb, le-ltb, eqb-true, eqb-false}
-use Rattle.jobs.specs.Below.{count, some}
+use Rattle.std.specs.Prelude.{Option, Some, None, find}
+use Rattle.std.specs.List.{All}
+use Rattle.std.proofs.lemmas.List.{length-take-le, get_or-take}
+use Rattle.jobs.specs.Below.{count}
 use Rattle.jobs.specs.Table.{jobs, ready}
-use Rattle.jobs.specs.Orders.{filled}
+use Rattle.jobs.specs.Arrays.{Holds}
+use Rattle.jobs.specs.Orders.{the_job}
+use Rattle.jobs.specs.declared.Job.{Job}
 use Rattle.jobs.proofs.Below.{by_cases, none_at, count-le, count_less, count_at_most}
-use Rattle.jobs.proofs.Placed.{length-filled, get_or-filled}
-use Rattle.jobs.proofs.Refusals.{Good, good}
-use Rattle.frame.specs.Schedule.{need, foremost, waits, runs, had, finish}
+use Rattle.jobs.proofs.Refusals.{Good}
+use Rattle.frame.specs.Latest.{AtMost}
+use Rattle.frame.specs.Schedule.{need, waits, runs, had, finish}
 use Rattle.frame.proofs.Foremost.{Foremost, foremost_is, is_foremost}
 use Rattle.frame.proofs.Slots.{waits_at, runs_at, waits_is, is_waiting, had_unready}
 use Rattle.frame.proofs.Finish.{met-finish}
 use Rattle.frame.proofs.Bounds.{need_positive, finish_at_most, finish_no_sooner}
 use Rattle.schedule.specs.Asks.{fill}
-use Rattle.schedule.specs.Events.{Accepted, never, next_ready, still_waits, Chosen, Fits, Ran, Allows, Passes}
-use Rattle.schedule.specs.declared.events.Clock.{Clock}
-use Rattle.schedule.specs.declared.events.Choice.{Choice}
-use Rattle.schedule.specs.declared.events.Choice.TheVariants.{Runs, Idle}
+use Rattle.schedule.specs.Events.{never, ComesNext, NoneBetween, waiting, Fits, sooner, Ran}
 use Rattle.schedule.proofs.Jumps.{Quiet, Ran as Jumped, run_jump, idle_jump}
-use Rattle.schedule.proofs.NextReady.{next_later, next_quiet, next-comes}
 use Rattle.schedule.proofs.Fill.{written-fill}
+use Rattle.schedule.proofs.Sorted.{sorted, sorted_below, most_urgent, none_chosen}
 
 -- ---- what the walk knows
 
@@ -46,92 +47,102 @@ pub record Along (table pattern before : List ℕ) (time : ℕ) (left finishes :
   pub ended : (job : ℕ) → job < jobs table → get_or left job 0 ≡ 0 → get_or finishes job 0 ≡ finish table pattern job
   pub others : (i : ℕ) → jobs table ≤ i → get_or finishes i 0 ≡ get_or before i 0
 
--- While the walk is going its time is before `never`, and when it is over nothing is left to any job.
-pub record Stands (table pattern before : List ℕ) (clock : Clock) (left finishes : List ℕ) : Type 0 where
-  pub along : Along table pattern before clock.time left finishes
-  pub soon : clock.going ≡ true → clock.time < never
-  pub over : clock.going ≡ false → (job : ℕ) → job < jobs table → get_or left job 0 ≡ 0
+-- The events that can still come, at most 2n: each job that has something left can end, and each that is not ready can become ready.
+unfoldable pub turns : List ℕ → ℕ → List ℕ → ℕ
+turns table time left =
+    count (jobs table) (λ job. ltb 0 (get_or left job 0)) + count (jobs table) (λ job. ltb time (ready table job))
 
--- The events that can still come, at most 2n + 1: each job that has something left can end, and each that is not ready can become ready; and the last.
-unfoldable pub turns : List ℕ → Clock → List ℕ → ℕ
-turns table clock left =
-    count (jobs table) (λ job. ltb 0 (get_or left job 0)) + count (jobs table) (λ job. ltb clock.time (ready table job)) + cond clock.going 1 0
-
-pub turns_at_most : (table : List ℕ) (clock : Clock) (left : List ℕ) → turns table clock left ≤ 2 * jobs table + 1
+pub turns_at_most : (table : List ℕ) (time : ℕ) (left : List ℕ) → turns table time left ≤ 2 * jobs table
 unfolding turns
-turns_at_most table clock left =
-    let to_end = count_at_most (jobs table) (λ job. ltb 0 (get_or left job 0)) in
-    let to-come = count_at_most (jobs table) (λ job. ltb clock.time (ready table job)) in
-    by_cases clock.going (λ e. rw e (omega arith)) (λ e. rw e (omega arith))
+turns_at_most table time left =
+    omega (arith, count_at_most (jobs table) (λ job. ltb 0 (get_or left job 0)), count_at_most (jobs table) (λ job. ltb time (ready table job)))
 
-module _ (table pattern before : List ℕ) (accepted : Accepted table pattern) where
-  table_good : Good table
-  table_good = good table accepted.good
+-- What holds when the events begin: a good table of n jobs, a pattern that is accepted, room in the buffer, the jobs by urgency, and the ready
+-- times in an array.
+pub record Begun (table pattern before : List ℕ) (n : ℕ) (order : List Job) (times : List ℕ) : Type 0 where
+  pub good : Good table
+  pub counts : AtMost (jobs table) 8 pattern
+  pub room : jobs table ≤ length before
+  pub all_jobs : n ≡ jobs table
+  pub order_is : order ≡ sorted table
+  pub times_are : Holds 64 times (jobs table) (ready table)
 
+module _ {table pattern before : List ℕ} {n : ℕ} {order : List Job} {times : List ℕ} (begun : Begun table pattern before n order times) where
   -- ---- the start
 
-  pub stands_first : Stands table pattern before (record { time = 0; going = true }) (filled (λ x. x) (jobs table) (need table pattern)) before
-  stands_first =
+  pub along_first : (left : List ℕ) → Holds 64 left (jobs table) (need table pattern) → Along table pattern before 0 left before
+  along_first left needs =
       record {
-        along =
-            record {
-              all = length-filled (λ x. x) (jobs table) (need table pattern) table_good.few_jobs;
-              long = refl;
-              owed = λ job l. omega (arith, whole job l, had_unready table pattern 0 job (omega arith));
-              ended = λ job l e. absurd (omega (arith, whole job l, need_positive table pattern table_good 8 (omega arith) accepted.counts job l));
-              others = λ i h. refl;
-            };
-        soon = λ _. omega arith;
-        over = λ e. absurd (true≢false e);
+        all = needs.long;
+        long = refl;
+        owed = λ job l. omega (arith, needs.each job l, had_unready table pattern 0 job (omega arith));
+        ended = λ job l e. absurd (omega (arith, needs.each job l, need_positive table pattern begun.good 8 (omega arith) begun.counts job l));
+        others = λ i h. refl;
       }
-    where
-      whole : (job : ℕ) → job < jobs table → get_or (filled (λ x. x) (jobs table) (need table pattern)) job 0 ≡ need table pattern job
-      whole job l = get_or-filled (λ x. x) (jobs table) (need table pattern) 0 job l
 
-  module _ (room : jobs table ≤ length before) (time : ℕ) (left finishes : List ℕ)
-      (along : Along table pattern before time left finishes) (soon : time < never) where
-    abbrev next : ℕ
-    next = next_ready table time (jobs table)
+  module _ {time : ℕ} {left finishes : List ℕ} (along : Along table pattern before time left finishes) where
+    -- the ready times as the walk reads them
+    abbrev readied : List ℕ
+    readied = take n times
+
+    -- whether a job waits, by what is left
+    abbrev is_waiting_now : ℕ → Bool
+    is_waiting_now i = waiting times left time (the_job i)
+
+    ready_at : (i : ℕ) → i < jobs table → get_or readied i 0 ≡ ready table i
+    ready_at i l = get_or-take n times i 0 (omega (arith, begun.all_jobs)) ∙ begun.times_are.each i l
+
+    readied_long : length readied ≡ jobs table
+    readied_long = length-take-le n times (omega (arith, begun.all_jobs, begun.good.few_jobs, begun.times_are.long)) ∙ begun.all_jobs
+
+    -- each of the jobs sorted by urgency has a place in both arrays
+    pub places : All (λ (job : Job). (job.0 < length times) × (job.0 < length left)) order
+    places r d l =
+        let below = rw (← begun.order_is) at (sorted_below table begun.good.few_jobs r d (rw begun.order_is at l)) in
+        (omega (arith, below, begun.good.few_jobs, begun.times_are.long), omega (arith, below, begun.good.few_jobs, along.all))
 
     -- what waits by what is left waits by the definition
-    waits-left : (job : ℕ) → job < jobs table → still_waits table left time job ≡ waits_at table pattern time job
-    unfolding still_waits waits
+    waits-left : (job : ℕ) → job < jobs table → is_waiting_now job ≡ waits_at table pattern time job
+    unfolding waits
     waits-left job l =
-        ap (λ b. leb (ready table job) time && b)
+        rw (begun.times_are.each job l)
+        (ap (λ b. leb (ready table job) time && b)
         (by_cases (ltb (had table pattern time job) (need table pattern job))
         (λ e. lt-ltb 0 (get_or left job 0) (omega (arith, along.owed job l, ltb-true (had table pattern time job) (need table pattern job) e)) ∙ sym e)
-        (λ e. le-ltb 0 (get_or left job 0) (omega (arith, along.owed job l, ltb-false (had table pattern time job) (need table pattern job) e)) ∙ sym e))
+        (λ e. le-ltb 0 (get_or left job 0) (omega (arith, along.owed job l, ltb-false (had table pattern time job) (need table pattern job) e)) ∙ sym e)))
 
-    quiet : (u : ℕ) → u ≤ next → Quiet table pattern time u
-    quiet u h i l a = omega (arith, next_quiet table time (jobs table) i l a)
+    -- ---- the next ready time
 
-    after_now : time < next
-    after_now = next_later table time soon (jobs table)
+    quiet : (u : ℕ) → NoneBetween readied time u → Quiet table pattern time u
+    quiet u none i l a =
+        omega (arith, ready_at i l, none.later i (omega (arith, readied_long)) (omega (arith, ready_at i l)))
 
-    -- the jobs not yet ready are no more later on, and fewer at the next ready time
+    -- the jobs not yet ready are no more later on, and fewer when one becomes ready
     unready_le : (u : ℕ) → time ≤ u
         → count (jobs table) (λ job. ltb u (ready table job)) ≤ count (jobs table) (λ job. ltb time (ready table job))
     unready_le u h =
         count-le (jobs table) (λ job. ltb u (ready table job)) (λ job. ltb time (ready table job))
         (λ job l e. lt-ltb time (ready table job) (omega (arith, ltb-true u (ready table job) e)))
 
-    unready_less : next < never
-        → count (jobs table) (λ job. ltb next (ready table job)) < count (jobs table) (λ job. ltb time (ready table job))
-    unready_less h =
-        let comes = next-comes table time (jobs table) h in
-        count_less (jobs table) (λ job. ltb next (ready table job)) (λ job. ltb time (ready table job)) comes.0 comes.1
-        (le-ltb next (ready table comes.0) (omega (arith, comes.2)))
-        (lt-ltb time (ready table comes.0) (omega (arith, comes.2, after_now)))
-        (λ job l e. lt-ltb time (ready table job) (omega (arith, ltb-true next (ready table job) e, after_now)))
+    unready_less : (u : ℕ) → time < u → (i : ℕ) × (i < length readied) × (get_or readied i 0 ≡ u)
+        → count (jobs table) (λ job. ltb u (ready table job)) < count (jobs table) (λ job. ltb time (ready table job))
+    unready_less u later comes =
+        let l : comes.0 < jobs table = omega (arith, comes.1, readied_long) in
+        let at : ready table comes.0 ≡ u = sym (ready_at comes.0 l) ∙ comes.2 in
+        count_less (jobs table) (λ job. ltb u (ready table job)) (λ job. ltb time (ready table job)) comes.0 l
+        (le-ltb u (ready table comes.0) (omega arith))
+        (lt-ltb time (ready table comes.0) (omega arith))
+        (λ job l e. lt-ltb time (ready table job) (omega (arith, ltb-true u (ready table job) e)))
 
     -- ---- an idle event
 
-    module _ (idle : some (jobs table) (still_waits table left time) ≡ false) where
+    module _ (idle : None ≡ find (waiting times left time) order) where
       none_waits : (i : ℕ) → i < jobs table → waits_at table pattern time i ≡ false
-      none_waits i l = sym (waits-left i l) ∙ none_at (jobs table) (still_waits table left time) idle i l
+      none_waits i l =
+          sym (waits-left i l) ∙ none_at (jobs table) is_waiting_now (none_chosen table begun.good.few_jobs (waiting times left time) (rw begun.order_is at idle)) i l
 
-      idle_along : Along table pattern before next left finishes
-      idle_along =
+      pub along_idle : {next : ℕ} → ComesNext readied time (Some next) → Along table pattern before next left finishes
+      along_idle {next} comes =
           record {
             all = along.all;
             long = along.long;
@@ -141,45 +152,44 @@ module _ (table pattern before : List ℕ) (accepted : Accepted table pattern) w
           }
         where
           same : time + (next - time) ≡ next
-          same = add-sub_of_le (omega (arith, after_now))
+          same = add-sub_of_le (omega (arith, comes.after))
 
           stays : (job : ℕ) → job < jobs table → had table pattern next job ≡ had table pattern time job
           stays job l =
               ap (λ u. had table pattern u job) (sym same)
-              ∙ idle_jump table pattern time none_waits (next - time) (quiet (time + (next - time)) (omega (arith, same))) job l
+              ∙ idle_jump table pattern time none_waits (next - time) (λ i k a. omega (arith, same, quiet next comes.none_between i k a)) job l
+
+      pub turns-idle : {next : ℕ} → ComesNext readied time (Some next) → turns table next left < turns table time left
+      unfolding turns
+      turns-idle {next} comes = omega (arith, unready_less next comes.after comes.comes)
 
       -- with nothing to come, nothing is left
-      nothing_left : never ≤ next → (job : ℕ) → job < jobs table → get_or left job 0 ≡ 0
-      nothing_left h job l =
+      nothing_left : ComesNext readied time None → (job : ℕ) → job < jobs table → get_or left job 0 ≡ 0
+      nothing_left comes job l =
           by_cases (ltb (had table pattern time job) (need table pattern job))
           (λ e.
           by_cases (ltb time (ready table job))
-          (λ a. absurd (omega (arith, next_quiet table time (jobs table) job l (ltb-true time (ready table job) a), table_good.ready_at_most job l)))
+          (λ a. absurd (omega (arith, quiet never comes job l (ltb-true time (ready table job) a), begun.good.ready_at_most job l)))
           (λ a. absurd (true≢false (sym (is_waiting table pattern time job (ltb-false _ _ a) (ltb-true _ _ e)) ∙ none_waits job l))))
           (λ e. omega (arith, along.owed job l, ltb-false (had table pattern time job) (need table pattern job) e))
 
-      stands_idle : (clock : Clock) → clock.time ≡ next → clock.going ≡ ltb next never → Stands table pattern before clock left finishes
-      stands_idle clock e g =
-          record {
-            along = rw e idle_along;
-            soon = λ h. omega (arith, ltb-true next never (sym g ∙ h));
-            over = λ h. nothing_left (ltb-false next never (sym g ∙ h));
-          }
-
-      turns-idle : (clock : Clock) → clock.time ≡ next → clock.going ≡ ltb next never
-          → turns table clock left < turns table (record { time = time; going = true }) left
-      unfolding turns
-      turns-idle clock e g =
-          rw (e, g)
-          (by_cases (ltb next never)
-          (λ h. rw h (omega (arith, unready_less (ltb-true next never h))))
-          (λ h. rw h (omega (arith, unready_le next (omega (arith, after_now))))))
+      pub all_written : ComesNext readied time None → finishes ≡ fill (jobs table) (finish table pattern) before
+      all_written comes =
+          written-fill (finish table pattern) before (jobs table) finishes begun.room
+          (record {
+            long = along.long;
+            results = λ i l. along.ended i l (nothing_left comes i l);
+            others = along.others;
+          })
 
     -- ---- a job runs
 
-    module _ (job : ℕ) (chosen : foremost table (still_waits table left time) job ≡ true) where
-      most : Foremost table (still_waits table left time) job
-      most = foremost_is table (still_waits table left time) job chosen
+    module _ {chosen : Job} (picked : Some chosen ≡ find (waiting times left time) order) where
+      abbrev job : ℕ
+      job = chosen.0
+
+      most : Foremost table is_waiting_now job
+      most = foremost_is table is_waiting_now job (most_urgent table begun.good.few_jobs (waiting times left time) chosen (rw begun.order_is at picked))
 
       is_job : job < jobs table
       is_job = most.is_job
@@ -201,12 +211,12 @@ module _ (table pattern before : List ℕ) (accepted : Accepted table pattern) w
       has_left = omega (arith, along.owed job is_job, unmet)
 
       in_left : job < length left
-      in_left = omega (arith, is_job, table_good.few_jobs, along.all)
+      in_left = omega (arith, is_job, begun.good.few_jobs, along.all)
 
       in_finishes : job < length finishes
-      in_finishes = omega (arith, is_job, room, along.long)
+      in_finishes = omega (arith, is_job, begun.room, along.long)
 
-      fits_run : Fits job time left finishes
+      pub fits_run : Fits job time left finishes
       fits_run =
           record {
             owed = in_left;
@@ -215,15 +225,15 @@ module _ (table pattern before : List ℕ) (accepted : Accepted table pattern) w
                 omega (
                   arith,
                   along.owed job is_job,
-                  finish_no_sooner table pattern table_good 8 (omega arith) accepted.counts time job is_job unmet,
-                  finish_at_most table pattern table_good 8 (omega arith) accepted.counts job is_job,
+                  finish_no_sooner table pattern begun.good 8 (omega arith) begun.counts time job is_job unmet,
+                  finish_at_most table pattern begun.good 8 (omega arith) begun.counts job is_job,
                 );
           }
 
       -- it runs d slots
-      module _ (d : ℕ) (within : d ≤ get_or left job 0) (no-later : time + d ≤ next) where
+      module _ (d : ℕ) (within : d ≤ get_or left job 0) (no-later : Quiet table pattern time (time + d)) where
         jumped : Jumped table pattern time job runs_now d
-        jumped = run_jump table pattern time job runs_now d (quiet (time + d) no-later) (omega (arith, along.owed job is_job, unmet))
+        jumped = run_jump table pattern time job runs_now d no-later (omega (arith, along.owed job is_job, unmet))
 
         owed-after : (i : ℕ) → i < jobs table → get_or (set left job (get_or left job 0 - d)) i 0 ≡ need table pattern i - had table pattern (time + d) i
         owed-after i l =
@@ -280,125 +290,71 @@ module _ (table pattern before : List ℕ) (accepted : Accepted table pattern) w
       abbrev end : ℕ
       end = time + get_or left job 0
 
-      module _ (clock : Clock) (left' finishes' : List ℕ) (ran : Ran job time next left finishes left' finishes' clock.time)
-          (going : clock.going ≡ true) where
-        -- it runs up to the next ready time
-        along_next : next < end → Along table pattern before clock.time left' finishes'
-        along_next h =
-            rw (times, ran.left_is ∙ ap (set left job) less, kept)
-            (along_after (next - time) (omega (arith, after_now)) (omega (arith, after_now)) finishes along.long
-            (λ q. absurd (omega (arith, after_now)))
-            (λ i q. refl))
+      -- the time at which the run stops: its end, or the next ready time
+      record Stops (stop : ℕ) : Type 0 where
+        later : time < stop
+        by_end : stop ≤ end
+        none_between : Quiet table pattern time stop
+        becomes : stop < end → (i : ℕ) × (i < length readied) × (get_or readied i 0 ≡ stop)
+
+      stops : (next : Option ℕ) → ComesNext readied time next → Stops (sooner end next)
+      stops None comes =
+          record {
+            later = omega (arith, has_left);
+            by_end = omega arith;
+            none_between = λ i l a. omega (arith, quiet never comes i l a, fits_run.ends);
+            becomes = λ h. absurd (omega arith);
+          }
+      stops (Some next) comes =
+          record {
+            later = omega (arith, has_left, comes.after);
+            by_end = omega arith;
+            none_between = λ i l a. omega (arith, quiet next comes.none_between i l a);
+            becomes = λ h. (comes.comes.0, comes.comes.1, omega (arith, comes.comes.2));
+          }
+
+      module _ {next : Option ℕ} (comes : ComesNext readied time next) {left' finishes' : List ℕ} {stop : ℕ}
+          (ran : Ran job time next left finishes left' finishes' stop) where
+        stopped : Stops stop
+        stopped = rw ran.time_is (stops next comes)
+
+        times_is : stop ≡ time + (stop - time)
+        times_is = omega (arith, stopped.later)
+
+        left_is : left' ≡ set left job (get_or left job 0 - (stop - time))
+        left_is = ran.left_is ∙ ap (set left job) (omega (arith, stopped.later, stopped.by_end))
+
+        -- it runs up to the next ready time, or to its end
+        pub along_run : Along table pattern before stop left' finishes'
+        along_run =
+            rw (times_is, left_is)
+            (along_after (stop - time) (omega (arith, stopped.later, stopped.by_end)) (λ i l a. omega (arith, times_is, stopped.none_between i l a)) finishes'
+            (by_cases (ltb stop end) (λ e. rw (kept e) along.long) (λ e. rw (noted e) (simp length-set along.long)))
+            (λ q. by_cases (ltb stop end) (λ e. absurd (omega (arith, stopped.later, ltb-true stop end e, q))) (λ e. rw (noted e) (get_or-set_same finishes job end 0 in_finishes ∙ omega (arith, q))))
+            (λ i q. by_cases (ltb stop end) (λ e. rw (kept e)) (λ e. rw (noted e) (get_or-set_other finishes job i end 0 q))))
           where
-            times : clock.time ≡ time + (next - time)
-            times = omega (arith, ran.time_is, after_now)
+            kept : ltb stop end ≡ true → finishes' ≡ finishes
+            kept e = rw e at ran.finishes_is
 
-            less : end - next ≡ get_or left job 0 - (next - time)
-            less = omega (arith, after_now)
+            noted : ltb stop end ≡ false → finishes' ≡ set finishes job end
+            noted e = rw e at ran.finishes_is
 
-            kept : finishes' ≡ finishes
-            kept = rw (lt-ltb next end h) at ran.finishes_is
-
-        -- it runs to its end
-        along_end : end ≤ next → Along table pattern before clock.time left' finishes'
-        along_end h =
-            rw (times, ran.left_is ∙ ap (set left job) less, noted)
-            (along_after (get_or left job 0) (omega arith) h (set finishes job end) (simp length-set along.long)
-            (λ q. get_or-set_same finishes job end 0 in_finishes)
-            (λ i q. get_or-set_other finishes job i end 0 q))
-          where
-            times : clock.time ≡ end
-            times = omega (arith, ran.time_is)
-
-            less : end - next ≡ get_or left job 0 - get_or left job 0
-            less = omega arith
-
-            noted : finishes' ≡ set finishes job end
-            noted = rw (le-ltb next end h) at ran.finishes_is
-
-        stands_run : Stands table pattern before clock left' finishes'
-        stands_run =
-            record {
-              along = by_cases (ltb next end) (λ e. along_next (ltb-true next end e)) (λ e. along_end (ltb-false next end e));
-              soon = λ _. omega (arith, ran.time_is, fits_run.ends);
-              over = λ e. absurd (true≢false (sym going ∙ e));
-            }
-
-        turns-run : turns table clock left' < turns table (record { time = time; going = true }) left
+        pub turns-run : turns table stop left' < turns table time left
         unfolding turns
         turns-run =
-            rw (going, ran.left_is)
-            (by_cases (ltb next end)
+            rw ran.left_is
+            (by_cases (ltb stop end)
             (λ e.
-            let h : next < end = ltb-true next end e in
-            let times : clock.time ≡ next = omega (arith, ran.time_is) in
-            rw times
-            (omega (
-              arith,
-              unready_less (omega (arith, fits_run.ends)),
-              count-le (jobs table) (λ i. ltb 0 (get_or (set left job (end - next)) i 0)) (λ i. ltb 0 (get_or left i 0)) (λ i l. left_le (end - next) i),
-            )))
-            (λ e.
-            let h : end ≤ next = ltb-false next end e in
-            let gone : get_or (set left job (end - next)) job 0 ≤ 0 = omega (arith, get_or-set_same left job (end - next) 0 in_left) in
             omega (
               arith,
-              unready_le clock.time (omega (arith, ran.time_is, after_now)),
-              count_less (jobs table) (λ i. ltb 0 (get_or (set left job (end - next)) i 0)) (λ i. ltb 0 (get_or left i 0)) job is_job
-                  (le-ltb 0 (get_or (set left job (end - next)) job 0) gone) (lt-ltb 0 (get_or left job 0) has_left) (λ i l. left_le (end - next) i),
+              unready_less stop stopped.later (stopped.becomes (ltb-true stop end e)),
+              count-le (jobs table) (λ i. ltb 0 (get_or (set left job (end - stop)) i 0)) (λ i. ltb 0 (get_or left i 0)) (λ i l. left_le (end - stop) i),
+            ))
+            (λ e.
+            let gone : get_or (set left job (end - stop)) job 0 ≤ 0 = omega (arith, get_or-set_same left job (end - stop) 0 in_left, ltb-false stop end e) in
+            omega (
+              arith,
+              unready_le stop (omega (arith, stopped.later)),
+              count_less (jobs table) (λ i. ltb 0 (get_or (set left job (end - stop)) i 0)) (λ i. ltb 0 (get_or left i 0)) job is_job
+                  (le-ltb 0 (get_or (set left job (end - stop)) job 0) gone) (lt-ltb 0 (get_or left job 0) has_left) (λ i l. left_le (end - stop) i),
             )))
-
-  -- ---- any event
-
-  module _ (room : jobs table ≤ length before) (clock : Clock) (left finishes : List ℕ) (stands : Stands table pattern before clock left finishes)
-      (going : clock.going ≡ true) (choice : Choice) (chosen : Chosen table (still_waits table left clock.time) choice) where
-    pub allowed : Allows choice clock.time left finishes
-    allowed = at choice chosen
-      where
-        at : (c : Choice) → Chosen table (still_waits table left clock.time) c → Allows c clock.time left finishes
-        at (Runs job) f = fits_run room clock.time left finishes stands.along (stands.soon going) job.0 f
-        at Idle f = tt
-
-    module _ (next : ℕ) (next_is : next ≡ next_ready table clock.time (jobs table)) (clock' : Clock) (left' finishes' : List ℕ)
-        (passes : Passes choice clock.time next left finishes left' finishes' clock') where
-      -- the event taken apart: what an idle event and a run show of any claim
-      by_event : {P : Type 0}
-          → ((job : ℕ) → foremost table (still_waits table left clock.time) job ≡ true
-          → Ran job clock.time (next_ready table clock.time (jobs table)) left finishes left' finishes' clock'.time → clock'.going ≡ true → P)
-          → (some (jobs table) (still_waits table left clock.time) ≡ false → left' ≡ left → finishes' ≡ finishes
-          → clock'.time ≡ next_ready table clock.time (jobs table) → clock'.going ≡ ltb (next_ready table clock.time (jobs table)) never → P)
-          → P
-      by_event {P} run rest = at choice chosen (rw next_is at passes)
-        where
-          at : (c : Choice) → Chosen table (still_waits table left clock.time) c
-              → Passes c clock.time (next_ready table clock.time (jobs table)) left finishes left' finishes' clock' → P
-          at (Runs job) f p = run job.0 f p.0 p.1
-          at Idle f p = rest f p.0 p.1 p.2 p.3
-
-      pub stands_next : Stands table pattern before clock' left' finishes'
-      stands_next =
-          by_event
-          (λ job f ran g. stands_run room clock.time left finishes stands.along (stands.soon going) job f clock' left' finishes' ran g)
-          (λ f a b e g. rw (a, b) (stands_idle room clock.time left finishes stands.along (stands.soon going) f clock' e g))
-
-      pub turns_next : turns table clock' left' < turns table clock left
-      turns_next =
-          rw now
-          (by_event
-          (λ job f ran g. turns-run room clock.time left finishes stands.along (stands.soon going) job f clock' left' finishes' ran g)
-          (λ f a b e g. rw a (turns-idle room clock.time left finishes stands.along (stands.soon going) f clock' e g)))
-        where
-          now : clock ≡ record { time = clock.time; going = true }
-          now = ap (λ g. record { time = clock.time; going = g }) going
-
-  -- ---- the end
-
-  pub stands_last : jobs table ≤ length before → (clock : Clock) (left finishes : List ℕ) → Stands table pattern before clock left finishes
-      → clock.going ≡ false → finishes ≡ fill (jobs table) (finish table pattern) before
-  stands_last room clock left finishes s e =
-      written-fill (finish table pattern) before (jobs table) finishes room
-      (record {
-        long = s.along.long;
-        results = λ i l. s.along.ended i l (s.over e i l);
-        others = s.along.others;
-      })

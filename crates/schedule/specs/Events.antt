@@ -1,29 +1,7 @@
 -- What the functions inside the ask schedule promise each other. Nothing here is 01's: the ask itself is promised by `Scheduled` alone.
 -- The walk goes from event to event (a job ends or becomes ready) and keeps what is left to each job of its need.
-use Rattle.std.specs.Prelude.{ℕ, zero, suc, ◌+◌, ◌-◌, ◌≤◌, ◌<◌, min, ◌≡◌, Bool, true, false, cond, ◌&&◌, List, length, get_or, set, leb, ltb}
-use Rattle.jobs.specs.Below.{some}
-use Rattle.jobs.specs.Table.{jobs, ready}
-use Rattle.jobs.specs.Refusals.{fine, first, table_refusals}
-use Rattle.jobs.specs.Orders.{filled, the_job, by_urgency}
-use Rattle.frame.specs.Schedule.{foremost}
-use Rattle.frame.specs.Latest.{AtMost}
-use Rattle.schedule.specs.declared.events.Choice.{Choice}
-use Rattle.schedule.specs.declared.events.Choice.TheVariants.{Runs, Idle}
-use Rattle.schedule.specs.declared.events.Clock.{Clock}
-
--- A table that is not refused, and a pattern for its jobs that is not refused.
-pub record Accepted (table pattern : List ℕ) : Type 0 where
-  pub good : first (table_refusals table) ≡ fine
-  pub counts : AtMost (jobs table) 8 pattern
-
--- The ready times of at most 64 jobs, by job number.
-pub record ReadyTimes (table times : List ℕ) : Type 0 where
-  pub few : jobs table ≤ 64
-  pub copied : times ≡ filled (λ x. x) (jobs table) (ready table)
-
--- The job at an urgency rank.
-abbrev pub job_of : List ℕ → ℕ → ℕ
-job_of table rank = (get_or (by_urgency table).job rank (the_job 0)).0
+use Rattle.std.specs.Prelude.{ℕ, ◌+◌, ◌-◌, ◌≤◌, ◌<◌, min, ◌≡◌, Bool, cond, ◌&&◌, List, length, get_or, set, leb, ltb, Option, Some, None}
+use Rattle.jobs.specs.declared.Job.{Job}
 
 -- No job becomes ready at this time or later.
 abbrev pub never : ℕ
@@ -33,19 +11,25 @@ never = 10000000
 abbrev pub to_come : ℕ → ℕ → ℕ
 to_come ready t = cond (ltb t ready) ready never
 
--- The next time after t at which one of the first n jobs becomes ready.
-unfoldable pub next_ready : List ℕ → ℕ → ℕ → ℕ
-next_ready table t zero = never
-next_ready table t (suc n) = min (next_ready table t n) (to_come (ready table n) t)
+-- None of these ready times comes after t and before u.
+pub record NoneBetween (times : List ℕ) (t u : ℕ) : Type 0 where
+  pub later : (i : ℕ) → i < length times → t < get_or times i 0 → u ≤ get_or times i 0
 
--- Whether a job waits at time t, by what is left to each job.
-unfoldable pub still_waits : List ℕ → List ℕ → ℕ → ℕ → Bool
-still_waits table left t job = leb (ready table job) t && ltb 0 (get_or left job 0)
+-- The first of these ready times after t.
+pub record FirstAfter (times : List ℕ) (t next : ℕ) : Type 0 where
+  pub after : t < next
+  pub soon : next < never
+  pub comes : (i : ℕ) × (i < length times) × (get_or times i 0 ≡ next)
+  pub none_between : NoneBetween times t next
 
--- Of the jobs that have p, the most urgent is chosen; idle, if there is none.
-abbrev pub Chosen : List ℕ → (ℕ → Bool) → Choice → Type 0
-Chosen table p (Runs job) = foremost table p job.0 ≡ true
-Chosen table p Idle = some (jobs table) p ≡ false
+-- The first of these ready times after t, if one comes.
+abbrev pub ComesNext : List ℕ → ℕ → Option ℕ → Type 0
+ComesNext times t None = NoneBetween times t never
+ComesNext times t (Some next) = FirstAfter times t next
+
+-- Whether a job waits at time t, by the jobs' ready times and what is left to each job.
+abbrev pub waiting : List ℕ → List ℕ → ℕ → Job → Bool
+waiting times left t job = leb (get_or times job.0 0) t && ltb 0 (get_or left job.0 0)
 
 -- A job's end fits in a word, and both lists have a place for the job.
 pub record Fits (job time : ℕ) (left finishes : List ℕ) : Type 0 where
@@ -53,20 +37,13 @@ pub record Fits (job time : ℕ) (left finishes : List ℕ) : Type 0 where
   pub room : job < length finishes
   pub ends : time + get_or left job 0 ≤ 8200000
 
+-- What comes first: an end, or the next ready time.
+abbrev pub sooner : ℕ → Option ℕ → ℕ
+sooner end None = end
+sooner end (Some next) = min next end
+
 -- A job ran to its end or up to the next ready time, whichever came first; at its end its finish is noted.
-pub record Ran (job time next : ℕ) (left finishes left' finishes' : List ℕ) (time' : ℕ) : Type 0 where
-  pub time_is : time' ≡ min next (time + get_or left job 0)
-  pub left_is : left' ≡ set left job (time + get_or left job 0 - next)
-  pub finishes_is : finishes' ≡ cond (ltb next (time + get_or left job 0)) finishes (set finishes job (time + get_or left job 0))
-
--- What an event asks: of an idle one nothing.
-abbrev pub Allows : Choice → ℕ → List ℕ → List ℕ → Type 0
-Allows (Runs job) time left finishes = Fits job.0 time left finishes
-Allows Idle time left finishes = Unit {0}
-
--- An event: the chosen job ran, or the processor was idle up to the next ready time.
-abbrev pub Passes : Choice → ℕ → ℕ → List ℕ → List ℕ → List ℕ → List ℕ → Clock → Type 0
-Passes (Runs job) time next left finishes left' finishes' clock =
-    Ran job.0 time next left finishes left' finishes' clock.time × (clock.going ≡ true)
-Passes Idle time next left finishes left' finishes' clock =
-    (left' ≡ left) × (finishes' ≡ finishes) × (clock.time ≡ next) × (clock.going ≡ ltb next never)
+pub record Ran (job time : ℕ) (next : Option ℕ) (left finishes left' finishes' : List ℕ) (time' : ℕ) : Type 0 where
+  pub time_is : time' ≡ sooner (time + get_or left job 0) next
+  pub left_is : left' ≡ set left job (time + get_or left job 0 - time')
+  pub finishes_is : finishes' ≡ cond (ltb time' (time + get_or left job 0)) finishes (set finishes job (time + get_or left job 0))

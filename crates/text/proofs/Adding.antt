@@ -1,14 +1,14 @@
 -- A text grows in a buffer piece by piece: nothing, one byte, one piece after another, and nothing more where the buffer is full.
 -- One piece after another is the two laid over the buffer as one, since the second goes where the first ends, or the buffer does.
 -- Assumes nothing.
-use Prim.Native.Nat.{ℕ, zero, suc, ◌+◌, ◌-◌, ◌≤◌, ◌<◌, min}
+use Prim.Native.Nat.{ℕ, zero, suc, ◌+◌, ◌-◌, ◌≤◌, min}
 use native.Mathlib.Omega.{arith}
-use native.Mathlib.Numerals.{add-one}
 use mathlib.Core.Path.{◌≡◌, refl, sym, ap, ◌∙◌}
-use mathlib.Core.List.{List, [], ◌∷◌, ◌++◌, append-nil}
-use lib.ListN.{length, get_or, take, drop, set, length-append, take-append-drop, drop_of_length-le}
-use lib.Seq.{take-suc, take_all, take-nil, drop-nil}
-use Rattle.text.specs.Text.{each, laid, Adds}
+use mathlib.Core.List.{List, [], ◌∷◌, ◌++◌}
+use lib.ListN.{length, take, drop, length-append, take-append-drop, length-drop}
+use borrow.Rule.Slice.PartMut.{put_mid}
+use lib.Seq.{take_all, take-nil, drop-nil}
+use Rattle.text.specs.Text.{laid, Adds}
 
 -- ---- a text laid over a buffer
 
@@ -23,12 +23,19 @@ laid-length [] buffer = refl
 laid-length (b ∷ text) [] = refl
 laid-length (b ∷ text) (old ∷ buffer) = ap suc (laid-length text buffer)
 
+-- what there is room for, and then the rest of the buffer
+laid_min : (text buffer : List ℕ) (n : ℕ) → n ≡ min (length text) (length buffer) → laid text buffer ≡ take n text ++ drop n buffer
+unfolding laid
+laid_min [] buffer zero e = refl
+laid_min [] buffer (suc n) e = absurd (omega arith)
+laid_min (b ∷ text) [] zero e = refl
+laid_min (b ∷ text) [] (suc n) e = absurd (omega arith)
+laid_min (b ∷ text) (old ∷ buffer) zero e = absurd (omega arith)
+laid_min (b ∷ text) (old ∷ buffer) (suc n) e = ap (λ rest. b ∷ rest) (laid_min text buffer n (omega arith))
+
 -- a text that fits is laid whole
 pub laid_whole : (text buffer : List ℕ) → length text ≤ length buffer → laid text buffer ≡ text ++ drop (length text) buffer
-unfolding laid
-laid_whole [] buffer l = refl
-laid_whole (b ∷ text) [] l = absurd (omega arith)
-laid_whole (b ∷ text) (old ∷ buffer) l = ap (λ rest. b ∷ rest) (laid_whole text buffer (omega arith))
+laid_whole text buffer l = laid_min text buffer (length text) (omega arith) ∙ ap (λ t. t ++ drop (length text) buffer) (take_all (length text) text (omega arith))
 
 -- one text after another, from where the first or the buffer ends
 laid_then : (p q b : List ℕ) (m : ℕ) → m ≡ min (length p) (length b) → take m (laid p b) ++ laid q (drop m (laid p b)) ≡ laid (p ++ q) b
@@ -54,12 +61,6 @@ put_then p q [] (suc at) m e = rw (laid_nowhere p, laid_nowhere (p ++ q), take-n
 put_then p q (old ∷ b) (suc at) zero e = absurd (omega arith)
 put_then p q (old ∷ b) (suc at) (suc m) e = ap (λ rest. old ∷ rest) (put_then p q b at m (omega arith))
 
-put_byte_is : (b : List ℕ) (at x : ℕ) → at < length b → set b at x ≡ put (x ∷ []) b at
-unfolding laid
-put_byte_is [] at x l = absurd (omega arith)
-put_byte_is (old ∷ b) zero x l = refl
-put_byte_is (old ∷ b) (suc at) x l = ap (λ rest. old ∷ rest) (put_byte_is b at x (omega arith))
-
 -- ---- pieces
 
 pub adds_none : (buffer : List ℕ) (at : ℕ) → Adds [] buffer at buffer at
@@ -76,14 +77,15 @@ adds_then p q b at b' at' b'' at'' one other =
       next = omega (arith, one.next, other.next, length-append p q, ap length one.lies ∙ put-length p b at);
     }
 
-pub adds_byte : (buffer : List ℕ) (at x : ℕ) → at < length buffer → Adds (x ∷ []) buffer at (set buffer at x) (at + 1)
-adds_byte buffer at x l = record { lies = put_byte_is buffer at x l; next = omega arith }
-
-pub adds_cut : (piece buffer : List ℕ) (at : ℕ) → length buffer ≤ at → Adds piece buffer at buffer at
-adds_cut piece buffer at l =
+-- as much of a piece as there is room for, copied over a part of the buffer
+pub adds_part : (piece buffer part : List ℕ) (at n : ℕ) → at ≤ length buffer → n ≡ min (length piece) (length buffer - at) → part ≡ take n piece
+    → Adds piece buffer at (put_mid at (at + n - at) buffer part) (at + n)
+adds_part piece buffer part at n l e h =
+    let moved : at + n - at ≡ n = omega arith in
+    let room : length (drop at buffer) ≡ length buffer - at = length-drop at buffer in
     record {
-      lies = sym (rw (take_all at buffer l, drop_of_length-le buffer l, laid_nowhere piece) (append-nil buffer));
-      next = omega arith;
+      lies = rw (moved, h) (ap (λ rest. take at buffer ++ rest) (sym (laid_min piece (drop at buffer) n (omega (arith, room, e)))));
+      next = omega (arith, e);
     }
 
 -- from the start of the buffer
@@ -93,44 +95,3 @@ adds-all text old buffer at a = (a.lies, omega (arith, a.next))
 -- a promise allows one result
 pub adds_once : (p b : List ℕ) (at : ℕ) (b' b'' : List ℕ) (r s : ℕ) → Adds p b at b' r → Adds p b at b'' s → (b' ≡ b'') × (r ≡ s)
 adds_once p b at b' b'' r s x y = (x.lies ∙ sym y.lies, x.next ∙ sym y.next)
-
--- ---- a loop that adds pieces
-
--- the text that a loop has added so far, in a buffer of the same length
-pub record Grown (piece buffer₀ : List ℕ) (start : ℕ) (buffer : List ℕ) (at : ℕ) : Type 0 where
-  pub long : length buffer ≡ length buffer₀
-  pub added : Adds piece buffer₀ start buffer at
-
-pub grown_none : (buffer : List ℕ) (at : ℕ) → Grown [] buffer at buffer at
-grown_none buffer at = record { long = refl; added = adds_none buffer at }
-
-pub grown_more : (p q r b₀ : List ℕ) (start : ℕ) (b : List ℕ) (at : ℕ) (b' : List ℕ) (at' : ℕ) → Grown p b₀ start b at → length b' ≡ length b → Adds q b at b' at'
-    → p ++ q ≡ r → Grown r b₀ start b' at'
-grown_more p q r b₀ start b at b' at' g l a e =
-    record { long = l ∙ g.long; added = rw (← e) (adds_then p q b₀ start b at b' at' g.added a) }
-
--- the bytes of a list, one after the other
-module _ (bytes b₀ : List ℕ) (start : ℕ) (b : List ℕ) (at i : ℕ) where
-  pub bytes_more : (b' : List ℕ) (at' x : ℕ) → i < length bytes → Grown (take i bytes) b₀ start b at → length b' ≡ length b → x ≡ get_or bytes i 0
-      → Adds (x ∷ []) b at b' at' → Grown (take (i + 1) bytes) b₀ start b' at'
-  bytes_more b' at' x h g l e a =
-      grown_more (take i bytes) (x ∷ []) (take (i + 1) bytes) b₀ start b at b' at' g l a
-      (ap (λ y. take i bytes ++ y ∷ []) e ∙ sym (take-suc bytes i 0 h) ∙ ap (λ j. take j bytes) (sym (add-one i)))
-
-  pub bytes_all : length bytes ≤ i → Grown (take i bytes) b₀ start b at → Adds bytes b₀ start b at
-  bytes_all h g = rw (take_all i bytes h) at g.added
-
--- the first pieces, one after the other
-module _ (piece : ℕ → List ℕ) (b₀ : List ℕ) (start : ℕ) where
-  pub each_none : Grown (each 0 piece) b₀ start b₀ start
-  unfolding each
-  each_none = grown_none b₀ start
-
-  pub each_more : (i : ℕ) (b : List ℕ) (at : ℕ) (b' : List ℕ) (at' : ℕ) → Grown (each i piece) b₀ start b at → length b' ≡ length b → Adds (piece i) b at b' at'
-      → Grown (each (i + 1) piece) b₀ start b' at'
-  unfolding each
-  each_more i b at b' at' g l a =
-      grown_more (each i piece) (piece i) (each (i + 1) piece) b₀ start b at b' at' g l a (ap (λ j. each j piece) (sym (add-one i)))
-
-  pub each_all : (n i : ℕ) (b : List ℕ) (at : ℕ) → i ≤ n → n ≤ i → Grown (each i piece) b₀ start b at → Adds (each n piece) b₀ start b at
-  each_all n i b at l h g = let all : i ≡ n = omega arith in adds_same (each i piece) (each n piece) b₀ start b at (ap (λ j. each j piece) all) g.added

@@ -7,18 +7,21 @@ use mathlib.Core.Path.{◌≡◌, refl}
 use mathlib.Core.Bool.{Bool}
 use mathlib.Core.List.{List, [], ◌∷◌, ◌++◌}
 use lib.ListN.{length, length-append}
+use lib.Chars.{codes}
 use lib.Dec.{ltb, lit<}
 use borrow.Author.Tests.{ltb-true, ltb-false}
 use Rattle.io.specs.Digits.{hex_digit_ascii, last_digits}
 use Rattle.jobs.specs.Below.{least}
+use Rattle.jobs.specs.Refusals.{number}
+use Rattle.jobs.specs.declared.refusal.Refusal.{Refusal}
 use Rattle.jobs.proofs.Below.{by_cases, before_least}
-use Rattle.text.specs.Text.{ascii, places, decimal, labelled, each, refusal}
+use Rattle.text.specs.Text.{places, decimal, labelled, each, refusal}
 
 -- a text of at most so many bytes
 pub record Short (text : List ℕ) (bytes : ℕ) : Type 0 where
   pub few : length text ≤ bytes
 
-pub word : (text : String) → Short (ascii text) (length (ascii text))
+pub word : (text : String) → Short (codes text) (length (codes text))
 word text = record { few = omega arith }
 
 pub then : {x y : List ℕ} {a b : ℕ} → Short x a → Short y b → Short (x ++ y) (a + b)
@@ -47,12 +50,12 @@ number_short n d l h =
     absurd (omega arith))
     (λ e. let few : least 20 p ≤ d = ltb-false d (least 20 p) e in record { few = omega (arith, digits_length 10 (suc (least 20 p)) n) })
 
-pub label_short : (text : String) (n d : ℕ) → d < 20 → n < 10 ^ suc d → Short (labelled text n) (length (ascii text) + suc d)
+pub label_short : (text : String) (n d : ℕ) → d < 20 → n < 10 ^ suc d → Short (labelled text n) (length (codes text) + suc d)
 label_short text n d l h = then (word text) (number_short n d l h)
 
 -- a number of two digits and a place of five
-pub refusal_short : (number place : ℕ) → number < 100 → place < 100000 → Short (refusal number place) 20
-refusal_short number place l h =
-    let a = label_short "refused " number 1 (lit< tt) l in
-    let b = label_short " at " place 4 (lit< tt) h in
+pub refusal_short : (r : Refusal) → number r.reason < 100 → r.place < 100000 → Short (refusal r) 20
+refusal_short r l h =
+    let a = label_short "refused " (number r.reason) 1 (lit< tt) l in
+    let b = label_short " at " r.place 4 (lit< tt) h in
     then (then a b) (word "\n")

@@ -1,4 +1,5 @@
 pub mod Adding
+pub mod Growing
 pub mod Digits
 pub mod Lengths
 pub mod Cases

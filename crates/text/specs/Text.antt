@@ -1,14 +1,10 @@
 -- Texts in ASCII, piece by piece; the lines that a program gives in place of its answer; and a text in a lent buffer.
-use Rattle.std.specs.Prelude.{ℕ, zero, suc, ◌+◌, ◌-◌, ◌^◌, min, ◌≡◌, List, [], ◌∷◌, ◌++◌, length, take, drop, ltb, ℤ, pos, negsuc}
-use Prim.Native.Char.{code}
-use Prim.Native.String.{String, [] as ends, ◌∷◌ as ◌followed_by◌}
+use Rattle.std.specs.Prelude.{ℕ, zero, suc, ◌+◌, ◌-◌, ◌^◌, min, ◌≡◌, List, [], ◌∷◌, ◌++◌, length, take, drop, ltb, ℤ, pos, negsuc, codes}
+use Prim.Native.String.{String}
 use Rattle.io.specs.Digits.{last_digits}
 use Rattle.jobs.specs.Below.{least}
-
--- The bytes of a text in ASCII.
-abbrev pub ascii : String → List ℕ
-ascii ends = []
-ascii (c followed_by rest) = code c ∷ ascii rest
+use Rattle.jobs.specs.Refusals.{number}
+use Rattle.jobs.specs.declared.refusal.Refusal.{Refusal}
 
 -- How many decimal digits a number has, if they are at most 21.
 unfoldable pub places : ℕ → ℕ
@@ -20,7 +16,7 @@ decimal n = last_digits 10 (places n) n
 
 -- A number after a text.
 abbrev pub labelled : String → ℕ → List ℕ
-labelled label n = ascii label ++ decimal n
+labelled label n = codes label ++ decimal n
 
 -- A signed number in decimal.
 abbrev pub signed : ℤ → List ℕ
@@ -32,9 +28,9 @@ unfoldable pub each : ℕ → (ℕ → List ℕ) → List ℕ
 each zero piece = []
 each (suc n) piece = each n piece ++ piece n
 
--- A refusal in one line: its number and its place.
-abbrev pub refusal : ℕ → ℕ → List ℕ
-refusal number place = labelled "refused " number ++ labelled " at " place ++ ascii "\n"
+-- A refusal in one line: its reason's number and its place.
+abbrev pub refusal : Refusal → List ℕ
+refusal r = labelled "refused " (number r.reason) ++ labelled " at " r.place ++ codes "\n"
 
 -- The most bytes that an input may have.
 abbrev pub most_bytes : ℕ
@@ -42,7 +38,7 @@ most_bytes = 32768
 
 -- The line on an input of more bytes.
 abbrev pub too_long : List ℕ
-too_long = ascii "too long\n"
+too_long = codes "too long\n"
 
 -- A text laid over the start of a buffer, as far as the buffer goes.
 unfoldable pub laid : List ℕ → List ℕ → List ℕ

@@ -1,96 +1,92 @@
-// Pieces of text, each put into a lent buffer after the one before, and the lines that a program gives in place of its answer. What a buffer has no
-// room for is left out.
+// A text that grows piece by piece in a lent buffer, and the lines that a program gives in place of its answer.
 
 #![tactic(auto)]
 
-ghost use Rattle.std.specs.Prelude.{◌∷◌, [], ◌++◌};
-ghost use Rattle.std.proofs.Math.IntN.{sub_ℕ};
-ghost use Rattle.text.specs.Text.{decimal, signed, refusal, too_long, Adds};
+ghost use Rattle.std.specs.Prelude.{◌≡◌, ◌≤◌, ◌++◌, length};
+ghost use Rattle.text.specs.Text.{decimal, signed, refusal as line_of, too_long};
+
+use jobs::Refusal;
 
 // The most bytes that an input may have.
 pub const MOST_BYTES: usize = 32_768;
 
-pub const LF: u8 = 10;
+// A text that grows in a lent buffer: its bytes lie at the buffer's start, and the next one goes after them. What the buffer has no room for is left
+// out.
+#[derive(Drop)]
+pub struct Text<'a> {
+    buffer: &'a mut [u8],
+    at: usize,
+    ghost within: { at ≤ length buffer.now },
+}
 
-// One byte. The place after it.
-pub fn put_byte(text: &mut [u8], at: usize, byte: u8) -> usize
-    ensures { Adds (byte ∷ []) text.old at text.new result }
-{
-    if text.len() <= at {
-        return at;
+impl<'a> Text<'a> {
+    ghost use Rattle.text.specs.Growing.{Begins, Puts};
+
+    // No text yet.
+    pub fn new(buffer: &'a mut [u8]) -> Text<'a>
+        ensures { Begins buffer.entry result }
+    {
+        Text { buffer, at: 0 }
     }
-    text[at] = byte;
-    at + 1
-}
 
-// Bytes, one after the other.
-pub fn put_bytes(text: &mut [u8], start: usize, bytes: &[u8]) -> usize
-    ensures { Adds bytes.now text.old start text.new result }
-{
-    let mut at = start;
-    let mut i = 0;
-    while i < bytes.len() {
-        at = put_byte(text, at, bytes[i]);
-        i += 1;
+    // How many bytes the text has.
+    pub fn len(&self) -> usize
+        ensures { result ≡ self.now.at }
+    {
+        self.at
     }
-    at
-}
 
-// A number in decimal.
-pub fn put_decimal(text: &mut [u8], at: usize, n: u64) -> usize
-    ensures { Adds (decimal n) text.old at text.new result }
-{
-    let mut digits = [0u8; 20];
-    let count = io::decimal(n, &mut digits);
-    put_bytes(text, at, &digits[..count])
-}
-
-// A number after a text.
-pub fn put_labelled(text: &mut [u8], at: usize, label: &[u8], n: u64) -> usize
-    ensures { Adds (label.now ++ decimal n) text.old at text.new result }
-{
-    let number = put_bytes(text, at, label);
-    put_decimal(text, number, n)
-}
-
-// One number less another, signed.
-pub fn put_signed(text: &mut [u8], at: usize, number: u32, less: u32) -> usize
-    ensures { Adds (signed (sub_ℕ number less)) text.old at text.new result }
-{
-    if less <= number {
-        return put_decimal(text, at, (number - less) as u64);
+    // Bytes.
+    pub fn put(&mut self, bytes: &[u8])
+        ensures { Puts bytes.now self.old self.new }
+    {
+        let count = bytes.len().min(self.buffer.len() - self.at);
+        let end = self.at + count;
+        self.buffer[self.at..end].copy_from_slice(&bytes[..count]);
+        self.at = end;
     }
-    put_labelled(text, at, b"-", (less - number) as u64)
-}
 
-// The number of a refusal: 20 to 25, which reading a file gives, and every other one.
-fn put_number(text: &mut [u8], at: usize, number: u32) -> usize
-    ensures { Adds (decimal number) text.old at text.new result }
-{
-    match number {
-        20 => put_bytes(text, at, b"20"),
-        21 => put_bytes(text, at, b"21"),
-        22 => put_bytes(text, at, b"22"),
-        23 => put_bytes(text, at, b"23"),
-        24 => put_bytes(text, at, b"24"),
-        25 => put_bytes(text, at, b"25"),
-        _ => put_decimal(text, at, number as u64),
+    // A number in decimal.
+    pub fn put_decimal(&mut self, n: u64)
+        ensures { Puts (decimal n) self.old self.new }
+    {
+        let mut digits = [0; 20];
+        let count = io::decimal(n, &mut digits);
+        self.put(&digits[..count]);
     }
-}
 
-// The line of a refusal.
-pub fn put_refusal(text: &mut [u8], at: usize, number: u32, place: usize) -> usize
-    ensures { Adds (refusal number place) text.old at text.new result }
-{
-    let after_word = put_bytes(text, at, b"refused ");
-    let after_number = put_number(text, after_word, number);
-    let end = put_labelled(text, after_number, b" at ", place as u64);
-    put_byte(text, end, LF)
-}
+    // A number after a text.
+    pub fn put_labelled(&mut self, label: &[u8], n: u64)
+        ensures { Puts (label.now ++ decimal n) self.old self.new }
+    {
+        self.put(label);
+        self.put_decimal(n);
+    }
 
-// The line on an input of more than MOST_BYTES bytes.
-pub fn put_too_long(text: &mut [u8], at: usize) -> usize
-    ensures { Adds too_long text.old at text.new result }
-{
-    put_bytes(text, at, b"too long\n")
+    // A signed number in decimal.
+    pub fn put_signed(&mut self, n: i64)
+        ensures { Puts (signed n) self.old self.new }
+    {
+        if n < 0 {
+            self.put(b"-");
+        }
+        self.put_decimal(n.unsigned_abs());
+    }
+
+    // The line of a refusal.
+    pub fn put_refusal(&mut self, refusal: Refusal)
+        ensures { Puts (line_of refusal) self.old self.new }
+    {
+        let number = u32::from(refusal.reason);
+        self.put_labelled(b"refused ", u64::from(number));
+        self.put_labelled(b" at ", refusal.place as u64);
+        self.put(b"\n");
+    }
+
+    // The line on an input of more than MOST_BYTES bytes.
+    pub fn put_too_long(&mut self)
+        ensures { Puts too_long self.old self.new }
+    {
+        self.put(b"too long\n");
+    }
 }

@@ -1,9 +1,17 @@
--- `report_text::put_report` meets its contract: the rows that are lent on are the first n jobs. Assumes nothing.
-use Prim.Native.Nat.{◌*◌}
-use mathlib.Core.Path.{sym}
-use lib.Seq.{length-take-le}
+-- `report_text::put_report` meets its contract: each of its three answers is a law of the promise (Reporting). Assumes nothing.
+use native.Mathlib.Omega.{arith}
+use mathlib.Core.Path.{refl}
+use Rattle.report_text.proofs.Reporting.{reports_too_long, reports_refused, good_table, reports_judged}
 use Rattle.report_text.proofs.put_report.Goals as goal
 
-pub slice_bounds-put_judged-end : goal.slice_bounds-put_judged-end
-slice_bounds-put_judged-end c =
-    sym (length-take-le (c.args.n * 4) c.args.table.now c.requires.row_words_in_bounds.0)
+pub returns-then-file-gt-MOST_BYTES : goal.returns-then-file-gt-MOST_BYTES
+returns-then-file-gt-MOST_BYTES c = reports_too_long c.args.file.now (omega arith) c.put_too_long.ensures
+
+pub put_judged-requires : goal.put_judged-requires
+put_judged-requires c = good_table c.args.file.now (omega arith) _ _ c.in-Ok.ensures _ _ refl
+
+pub returns-in-Err : goal.returns-in-Err
+returns-in-Err c = reports_refused c.args.file.now (omega arith) _ _ c.in-Err.ensures _ refl c.put_refusal.ensures
+
+pub returns-in-Ok : goal.returns-in-Ok
+returns-in-Ok c = reports_judged c.args.file.now (omega arith) _ _ c.in-Ok.ensures _ _ refl c.put_judged.ensures

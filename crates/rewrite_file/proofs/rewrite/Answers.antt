@@ -1,25 +1,7 @@
--- `rewrite_file::rewrite` meets its contract: each of its three answers is that of the definition. Assumes nothing.
-use native.Mathlib.Omega.{arith}
-use mathlib.Core.Path.{refl}
-use Rattle.text.proofs.Adding.{adds_same}
-use Rattle.rewrite_file.proofs.Answers.{rewritten_long, rewritten_refused, rewritten_good, read_refused, read_good}
+-- `rewrite_file::rewrite` meets its contract: what is put from the start of the lent buffer is the answer. Assumes nothing.
+use Rattle.std.proofs.Common.{rules}
+use Rattle.text.proofs.Growing.{puts_all}
 use Rattle.rewrite_file.proofs.rewrite.Goals as goal
 
-pub returns-then-file-gt-MOST_BYTES : goal.returns-then-file-gt-MOST_BYTES
-returns-then-file-gt-MOST_BYTES c =
-    adds_same _ _ _ _ _ _ (rewritten_long c.args.file.now (omega arith)) c.put_too_long.ensures
-
-pub put_with_head-requires : goal.put_with_head-requires
-put_with_head-requires c =
-    read_good c.args.file.now _ _ c.in-Jobs.ensures _ _ refl
-
-pub returns-in-Refused : goal.returns-in-Refused
-returns-in-Refused c =
-    let file = c.args.file.now in
-    adds_same _ _ _ _ _ _ (rewritten_refused file _ _ (omega arith) (read_refused file _ _ c.in-Refused.ensures _ _ refl)) c.put_refusal.ensures
-
-pub returns-in-Jobs : goal.returns-in-Jobs
-returns-in-Jobs c =
-    let file = c.args.file.now in
-    let good = read_good file _ _ c.in-Jobs.ensures _ _ refl in
-    adds_same _ _ _ _ _ _ (rewritten_good file good.table good.k (omega arith) good.means) c.put_with_head.ensures
+pub returns : goal.returns
+returns c = search (rules, puts_all)

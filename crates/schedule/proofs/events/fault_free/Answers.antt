@@ -1,16 +1,9 @@
--- `schedule::events::fault_free` meets its contract: a pattern of zeros is not refused, and its schedule is the one without faults. Assumes nothing.
-use Prim.Native.Nat.{◌≤◌}
-use native.Mathlib.Omega.{arith}
-use mathlib.Core.Path.{sym}
-use lib.Seq.{length-take-le}
-use Rattle.schedule.proofs.FaultFree.{zeros_finishes, many_finishes}
+-- `schedule::events::fault_free` meets its contract: the zeros that are lent are the pattern without faults. Assumes nothing.
+use Rattle.schedule.proofs.FaultFree.{zeros_accepted, zeros_finishes}
 use Rattle.schedule.proofs.events.fault_free.Goals as goal
 
-pub returns-then-n-gt-MOST_JOBS : goal.returns-then-n-gt-MOST_JOBS
-returns-then-n-gt-MOST_JOBS c = many_finishes c.args.table.now (omega arith)
+pub walk-requires-clause-counts : goal.walk-requires-clause-counts
+walk-requires-clause-counts c = zeros_accepted _ c.jobs.ensures.count c.jobs.ensures.few
 
-pub slice_bounds-schedule-end : goal.slice_bounds-schedule-end
-slice_bounds-schedule-end c = let fits : c.jobs-n.result ≤ 64 = omega arith in sym (length-take-le c.jobs-n.result _ fits)
-
-pub returns : goal.returns
-returns c = zeros_finishes _ _ _ _ c.jobs-n.ensures (omega arith) c.schedule.ensures
+pub returns-in-Ok : goal.returns-in-Ok
+returns-in-Ok c = rw c.in-Ok.ensures.0 at (zeros_finishes _ c.jobs.ensures.count c.jobs.ensures.few (rw (← c.in-Ok.ensures.0) at c.in-Ok.ensures.1) c.walk.ensures)

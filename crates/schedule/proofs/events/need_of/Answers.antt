@@ -8,18 +8,12 @@ use Rattle.frame.specs.Schedule.{need}
 use Rattle.frame.proofs.Bounds.{recovery_at_most}
 use Rattle.schedule.proofs.events.need_of.Goals as goal
 
-pub bounds-pattern-at : goal.bounds-pattern-at
-bounds-pattern-at c = omega (arith, c.requires.accepted.counts.long, c.requires.job_bound)
-
 -- the recoveries of this job
-recoveries : (c : goal.After-recovery)
-    → let a = c.args in
-    get_or a.pattern.now a.job.0 0 * c.recovery.result ≤ 800000
+recoveries : (c : goal.After-recovery) → get_or c.args.pattern.now c.args.job.0 0 * c.recovery.result ≤ 800000
 recoveries c =
     let a = c.args in
-    let good-table = good a.table.now c.requires.accepted.good in
-    rw c.recovery.ensures
-    (recovery_at_most a.table.now a.pattern.now good-table 8 (omega arith) c.requires.accepted.counts a.job.0 c.requires.job_bound)
+    rw (c.recovery.ensures, c.words-words.ensures.all)
+    (recovery_at_most a.table.now a.pattern.now (good a.table.now c.words-words.ensures.good) 8 (omega arith) c.requires.counts a.job.0 c.requires.job_bound)
 
 pub overflow_mul-result : goal.overflow_mul-result
 overflow_mul-result c = omega (arith, recoveries c)
@@ -27,8 +21,9 @@ overflow_mul-result c = omega (arith, recoveries c)
 pub overflow_add-result : goal.overflow_add-result
 overflow_add-result c =
     let a = c.args in
-    omega (arith, recoveries c, c.run.ensures, (good a.table.now c.requires.accepted.good).run_at_most a.job.0 c.requires.job_bound)
+    let w = c.words-words.ensures in
+    omega (arith, recoveries c, rw w.all at c.run.ensures, (good a.table.now w.good).run_at_most a.job.0 c.requires.job_bound)
 
 pub returns : goal.returns
 unfolding need
-returns c = rw (c.run.ensures, c.recovery.ensures)
+returns c = rw (c.run.ensures, c.recovery.ensures, c.words-words.ensures.all)

@@ -1,81 +1,59 @@
--- `schedule::events::walk` meets its contract. At each event what is left and what is written are the definition's (`Stands`); an event
--- keeps that and is one of at most 2n + 1 (`turns`), and when no event is left every job's finish is written.
+-- `schedule::events::walk` meets its contract. At each event what is left and what is written are the definition's (`Along`); an event
+-- keeps that and is one of at most 2n (`turns`), and when no event is left every job's finish is written.
 -- Assumes nothing.
-use mathlib.Core.Path.{sym}
+use mathlib.Core.Path.{sym, ◌∙◌}
+use lib.ListN.{take}
 use Rattle.jobs.proofs.Refusals.{good}
-use Rattle.schedule.proofs.NextReady.{times_long}
-use Rattle.schedule.proofs.Walk.{stands_first, allowed, turns_next, stands_next, stands_last}
+use Rattle.schedule.proofs.Walk.{Begun, along_first, along_idle, turns-idle, all_written, places, fits_run, along_run, turns-run}
 use Rattle.schedule.proofs.events.walk.Goals as goal
 
-pub ready_times-times-requires : goal.ready_times-times-requires
-ready_times-times-requires c = (good c.args.table.now c.requires.accepted.good).few_jobs
+pub loop-job-init : goal.loop-job-init
+loop-job-init c =
+    let n = c.jobs-n.result in
+    let begun : Begun c.args.table.now c.args.pattern.now c.args.finishes.now n (take n c.by_urgency-ranking.result.job) c.ready_times-times.result =
+    record {
+      good = good c.args.table.now c.words.ensures.good;
+      counts = c.requires.counts;
+      room = c.requires.room;
+      all_jobs = c.jobs-n.ensures.count;
+      order_is = rw (c.jobs-n.ensures.count, c.by_urgency-ranking.ensures, c.words.ensures.all);
+      times_are = c.ready_times-times.ensures;
+    } in
+    record { begun = begun; along = along_first begun c.needs-left.result c.needs-left.ensures }
 
-pub needs-left-requires : goal.needs-left-requires
-needs-left-requires c = c.requires.accepted
+pub pick-job-requires : goal.pick-job-requires
+pick-job-requires c = let now = c.loop-job.invariant in places now.begun now.along
 
-pub loop-clock-init : goal.loop-clock-init
-loop-clock-init c =
-    rw c.needs-left.ensures (stands_first c.args.table.now c.args.pattern.now c.args.finishes.now c.requires.accepted)
+pub run_on-time-requires : goal.run_on-time-requires
+run_on-time-requires c = let now = c.loop-job.invariant in fits_run now.begun now.along (sym c.in-Some-default.is-0 ∙ c.pick-job.ensures)
 
-pub slice_bounds-next_ready-end : goal.slice_bounds-next_ready-end
-slice_bounds-next_ready-end c =
-    let r = c.ready_times-times in
-    sym (times_long c.args.table.now r.result r.ensures)
+pub returns-in-None-None : goal.returns-in-None-None
+returns-in-None-None c =
+    let now = c.loop-job.invariant in
+    let none = c.in-None-None in
+    all_written now.begun now.along (sym none.is-0 ∙ c.pick-job.ensures) (rw none.is-1 at c.next_ready-next.ensures)
 
-pub next_ready-next-requires : goal.next_ready-next-requires
-next_ready-next-requires c = c.ready_times-times.ensures
+pub loop-job-smaller-in-Some-default : goal.loop-job-smaller-in-Some-default
+loop-job-smaller-in-Some-default c =
+    let now = c.loop-job.invariant in
+    turns-run now.begun now.along (sym c.in-Some-default.is-0 ∙ c.pick-job.ensures) c.next_ready-next.ensures c.run_on-time.ensures
 
-pub slice_bounds-pick-end : goal.slice_bounds-pick-end
-slice_bounds-pick-end c = sym c.by_rank-sorted.ensures.long
+pub loop-job-preserved-in-Some-default : goal.loop-job-preserved-in-Some-default
+loop-job-preserved-in-Some-default c =
+    let now = c.loop-job.invariant in
+    record {
+      begun = now.begun;
+      along = along_run now.begun now.along (sym c.in-Some-default.is-0 ∙ c.pick-job.ensures) c.next_ready-next.ensures c.run_on-time.ensures;
+    }
 
-pub slice_bounds-pick-end-in-loop-clock : goal.slice_bounds-pick-end-in-loop-clock
-slice_bounds-pick-end-in-loop-clock c =
-    let r = c.ready_times-times in
-    sym (times_long c.args.table.now r.result r.ensures)
+pub loop-job-smaller : goal.loop-job-smaller
+loop-job-smaller c =
+    let now = c.loop-job.invariant in
+    let idle = c.in-None-Some in
+    turns-idle now.begun now.along (sym idle.is-0 ∙ c.pick-job.ensures) (rw idle.is-1 at c.next_ready-next.ensures)
 
-pub slice_bounds-pick-end-in-loop-clock-2 : goal.slice_bounds-pick-end-in-loop-clock-2
-slice_bounds-pick-end-in-loop-clock-2 c = sym c.loop-clock.invariant.along.all
-
-pub pick-choice-requires : goal.pick-choice-requires
-pick-choice-requires c =
-    record { ready_times = c.ready_times-times.ensures; holds = (c.by_rank-sorted.ensures, c.loop-clock.invariant.along.all) }
-
-pub slice_bounds-event-end : goal.slice_bounds-event-end
-slice_bounds-event-end c = sym c.loop-clock.invariant.along.all
-
-pub event-clock-requires : goal.event-clock-requires
-event-clock-requires c =
-    let a = c.args in
-    let l = c.loop-clock in
-    let going = c.loop-clock-test.true in
-    let p = c.pick-choice in
-    allowed a.table.now a.pattern.now a.finishes.now c.requires.accepted c.requires.table_in_bounds l.clock l.left l.finishes l.invariant going
-    p.result p.ensures
-
-pub loop-clock-smaller : goal.loop-clock-smaller
-loop-clock-smaller c =
-    let a = c.args in
-    let l = c.loop-clock in
-    let going = c.loop-clock-test.true in
-    let n = c.next_ready-next in
-    let p = c.pick-choice in
-    let e = c.event-clock in
-    turns_next a.table.now a.pattern.now a.finishes.now c.requires.accepted c.requires.table_in_bounds l.clock l.left l.finishes l.invariant going
-    p.result p.ensures n.result n.ensures e.result e.new.left e.new.finishes e.ensures
-
-pub loop-clock-preserved : goal.loop-clock-preserved
-loop-clock-preserved c =
-    let a = c.args in
-    let l = c.loop-clock in
-    let going = c.loop-clock-test.true in
-    let n = c.next_ready-next in
-    let p = c.pick-choice in
-    let e = c.event-clock in
-    stands_next a.table.now a.pattern.now a.finishes.now c.requires.accepted c.requires.table_in_bounds l.clock l.left l.finishes l.invariant going
-    p.result p.ensures n.result n.ensures e.result e.new.left e.new.finishes e.ensures
-
-pub returns : goal.returns
-returns c =
-    let a = c.args in
-    let l = c.loop-clock in
-    stands_last a.table.now a.pattern.now a.finishes.now c.requires.accepted c.requires.table_in_bounds l.clock l.left l.finishes l.invariant c.loop-clock-test.false
+pub loop-job-preserved : goal.loop-job-preserved
+loop-job-preserved c =
+    let now = c.loop-job.invariant in
+    let idle = c.in-None-Some in
+    record { begun = now.begun; along = along_idle now.begun now.along (sym idle.is-0 ∙ c.pick-job.ensures) (rw idle.is-1 at c.next_ready-next.ensures) }

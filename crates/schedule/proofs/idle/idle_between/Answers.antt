@@ -10,12 +10,6 @@ use Rattle.schedule.proofs.idle.idle_between.Goals as goal
 pub returns-then-b-a : goal.returns-then-b-a
 returns-then-b-a c = let a = c.args in sym (free_slots_none a.table.now a.a a.b c.if-b-a.true)
 
-pub idle_before-requires : goal.idle_before-requires
-idle_before-requires c = record { table_value = c.requires; order_value = c.by_ready-order.ensures }
-
-pub idle_before-requires-2 : goal.idle_before-requires-2
-idle_before-requires-2 c = record { table_value = c.requires; order_value = c.by_ready-order.ensures }
-
 -- the slots before a and those between are the slots before b
 together : (c : goal.After-idle_before-2)
     → c.idle_before-2.result + free_slots c.args.table.now c.args.a c.args.b
