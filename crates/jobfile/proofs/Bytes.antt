@@ -10,7 +10,7 @@ use lib.Seq.{get_or-drop, drop-drop}
 use Rattle.std.proofs.lemmas.List.{take-append-le, drop-append-le}
 use Rattle.jobs.specs.Table.{row_words}
 use Rattle.jobfile.specs.Bytes.{number, number_at, words}
-use Rattle.jobfile.specs.Meaning.{row_of}
+use Rattle.jobfile.specs.Meaning.{length_of, faults_of, row_of}
 
 -- ---- from bytes to a number
 
@@ -55,6 +55,10 @@ module _ (bytes : List ℕ) (at : ℕ) where
         get_or-drop at bytes 3 0,
         ap (λ (i : ℕ). get_or bytes i 0) (add-zero at),
       )
+
+-- the k of a head
+pub faults_is : (left : List ℕ) → length_of left ≡ 3 → 2 + length_of left ≤ length left → faults_of left ≡ get_or left 4 0
+faults_is left e h = one_byte left 4 (omega arith)
 
 -- the words of a job's record
 pub row_is : (left : List ℕ) → row_of left ≡ number_at 4 4 left ∷ number_at 4 8 left ∷ number_at 4 12 left ∷ number_at 4 16 left ∷ []

@@ -42,6 +42,7 @@ pub struct Contents {
 }
 
 // The 16-bit number at an offset.
+#[tactic(auto, using(crate::proofs::Bytes::two_bytes))]
 fn u16_at(bytes: &[u8], at: usize) -> u16
     requires { at + 2 ≤ length bytes.now }
     ensures { result ≡ number_at 2 at bytes.now }
@@ -50,6 +51,7 @@ fn u16_at(bytes: &[u8], at: usize) -> u16
 }
 
 // The 32-bit number at an offset.
+#[tactic(auto, using(crate::proofs::Bytes::four_bytes))]
 fn u32_at(bytes: &[u8], at: usize) -> u32
     requires { at + 4 ≤ length bytes.now }
     ensures { result ≡ number_at 4 at bytes.now }
@@ -78,7 +80,7 @@ fn strays(row: [u32; 4]) -> bool
 }
 
 // Kind 1: 21, 23, 25.
-#[tactic(auto, unfolding(crate::specs::Meaning::head_at))]
+#[tactic(auto, using(crate::proofs::Bytes::faults_is), unfolding(crate::specs::Meaning::head_at))]
 fn head(left: &[u8], at: usize) -> Result<Record, Refusal>
     requires { 2 + length_of left.now ≤ length left.now }
     ensures { result ≡ head_at left.now at }

@@ -2,11 +2,10 @@
 
 #![tactic(auto)]
 
-ghost use Rattle.std.specs.Prelude.{◌≡◌, ◌+◌, ◌*◌, ◌≤◌, ◌++◌, length, take};
+ghost use Rattle.std.specs.Prelude.{◌≡◌, ◌*◌, ◌≤◌, ◌++◌, length};
 ghost use Rattle.jobs.specs.Table.{row_words, jobs};
-ghost use Rattle.jobs.specs.Refusals.{first};
 ghost use Rattle.jobfile.specs.Bytes.{over};
-ghost use Rattle.jobfile_write.specs.Writing.{bytes_of, word_bytes, head_bytes, job_bytes, jobs_bytes, file_of, write_refusals, WritesTo};
+ghost use Rattle.jobfile_write.specs.Writing.{bytes_of, head_bytes, job_bytes, jobs_bytes, WritesTo};
 
 use jobfile::{HEAD_BYTES, JOB_BYTES};
 use jobs::{Faults, ROW, Reason, Refusal, Table, given};
