@@ -1,6 +1,6 @@
 -- The walk over a good table's jobs by turn, as the code does it: what its arrays and its row of nine cells hold, that the cells fit, and
 -- that the last of them is the latest finish. Assumes nothing.
-use Prim.Native.Nat.{ℕ, zero, suc, ◌+◌, ◌-◌, ◌*◌, ◌/◌, ◌%◌, ◌≤◌, ◌<◌, zero-le}
+use Prim.Native.Nat.{ℕ, zero, suc, ◌+◌, ◌-◌, ◌*◌, ◌≤◌, ◌<◌, zero-le}
 use native.Mathlib.Numerals.{add-one}
 use native.Mathlib.Omega.{arith}
 use mathlib.Core.Path.{◌≡◌, refl, sym, ap, ◌∙◌, subst}
@@ -14,10 +14,10 @@ use Rattle.std.proofs.lemmas.List.{get_or-take}
 use Rattle.std.proofs.lemmas.List.Sums.{position_or_len_is}
 use Rattle.jobs.specs.Below.{listed}
 use lib.Seq.{get_or-set_same, get_or-set_other}
-use lib.Dec.{leb, ltb, eqb, lit<}
+use lib.Dec.{leb, ltb, eqb}
 use borrow.Author.Tests.{ne_eqb, eq-eqb, ltb-true, ltb-false, lt-ltb, le-ltb, le-leb, lt-leb, eqb-true, eqb-false}
 use borrow.Author.Count.{below_none, below_more}
-use Rattle.jobs.specs.Table.{jobs, word, ready, run, recovery}
+use Rattle.jobs.specs.Table.{jobs, ready, run, recovery}
 use Rattle.jobs.specs.Urgency.{urgent, job_at}
 use Rattle.jobs.specs.Orders.{the_job, the_rank, held, filled, by_urgency, by_ready}
 use Rattle.jobs.specs.Refusals.{fine, first, table_refusals}

@@ -17,7 +17,6 @@ use Rattle.jobs.specs.Urgency.{urgent, position, job_at}
 use Rattle.jobs.specs.Orders.{the_job, by_urgency}
 use Rattle.jobs.specs.Arrays.{Holds}
 use Rattle.jobs.specs.declared.Job.{Job}
-use Rattle.jobs.specs.declared.Ranking.{Ranking}
 use Rattle.jobs.proofs.Below.{by_cases, below_suc}
 use Rattle.jobs.proofs.Urgency.{urgency_order}
 use Rattle.jobs.proofs.Orders.{rearranges, position_rises, job_at_below, job_of_rank}

@@ -3,7 +3,6 @@
 use native.Mathlib.Omega.{arith}
 use native.Mathlib.Nat.{lt_of_lt_of_le, le_antisymm}
 use Prim.Native.Nat.{◌-◌, ◌<◌, zero-le}
-use mathlib.Core.Path.{◌≡◌, sym, ◌∙◌}
 use mathlib.Core.List.{[]}
 use Rattle.latest.proofs.Walk.{job_at_turn}
 use Rattle.judge.proofs.ByTurn.{turn-job, turn_below}
