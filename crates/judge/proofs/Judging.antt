@@ -6,7 +6,7 @@ use native.Mathlib.Omega.{arith}
 use mathlib.Core.Path.{◌≡◌, sym, ap, ◌∙◌, subst}
 use mathlib.Core.Bool.{true, false, true≢false}
 use mathlib.Core.List.{List}
-use lib.ListN.{length, get_or, set, take, replicate, length-take, length-set, length-replicate}
+use lib.ListN.{length, get_or, set, take, length-take, length-set}
 use lib.Seq.{get_or-set_same, get_or-set_other}
 use Rattle.std.proofs.lemmas.List.{get_or-take}
 use lib.Dec.{eqb}
@@ -35,9 +35,6 @@ pub record LateTo (table : List ℕ) (k q : ℕ) (late : List ℕ) : Type 0 wher
   pub each : (p : ℕ) → p < q → get_or late (job_at_turn table p) 0 ≡ latest table k (job_at_turn table p)
 
 module _ (table : List ℕ) (k : ℕ) where
-  pub late_none : LateTo table k 0 (replicate 64 0)
-  late_none = record { long = length-replicate {A = ℕ} 64 0; each = λ p l. absurd (omega arith) }
-
   pub late_more : (q at x : ℕ) (late : List ℕ) → at ≡ job_at_turn table q → at < 64 → x ≡ latest table k (job_at_turn table q) → LateTo table k q late
       → LateTo table k (q + 1) (set late at x)
   late_more q at x late e l f h =
