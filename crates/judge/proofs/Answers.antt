@@ -9,25 +9,23 @@ use mathlib.Core.List.{List, [], ◌∷◌, ◌++◌}
 use lib.ListN.{length, get_or, take, drop, length-take}
 use lib.Seq.{ext_get_or}
 use Rattle.std.proofs.lemmas.List.{get_or-take}
-use borrow.Author.Tests.{ltb-true, ltb-false, not-false}
 use Rattle.std.specs.Prelude.{Result, Ok, Err}
 use Rattle.jobs.specs.Below.{listed}
 use Rattle.jobs.specs.Table.{jobs}
 use Rattle.jobs.specs.Refusals.{Check, fine, after, first, table_refusals, too_many_faults}
 use Rattle.jobs.specs.Arrays.{values}
 use Rattle.jobs.specs.declared.Job.{Job}
-use Rattle.jobs.specs.declared.refusal.Reason.TheVariants.{TooManyFaults, ShortBuffer, WrongPattern, NoSuchJob}
 use Rattle.jobs.specs.declared.refusal.Refusal.{Refusal}
 use Rattle.jobs.proofs.Below.{length-listed, get_or-listed}
-use Rattle.jobs.proofs.Refusals.{good, not-given, after_fine, after_last, first-append}
-use Rattle.frame.specs.Latest.{latest, verdict}
+use Rattle.jobs.proofs.Refusals.{good, after_last, first-append}
+use Rattle.frame.specs.Latest.{verdict}
 use Rattle.frame.specs.declared.Verdict.{Verdict}
 use Rattle.frame.specs.declared.Verdict.TheVariants.{Sound, Miss}
 use Rattle.frame.proofs.Verdicts.{miss_names}
 use Rattle.schedule.specs.Asks.{short_buffer, fill}
 use Rattle.latest.proofs.Latest.{handed_reaches}
 use Rattle.judge.specs.Notes.{Unwound, CountsFor}
-use Rattle.judge.specs.Asks.{short_pattern, no_such_job, judge_refusals, pattern_refusals, Unless, Handed, HandedFor, Judging, Reaching}
+use Rattle.judge.specs.Asks.{short_pattern, judge_refusals, pattern_refusals, Unless, Handed, HandedFor, Judging, Reaching}
 use Rattle.judge.proofs.Unwinding.{zeros_at}
 
 -- ---- the refusals

@@ -1,6 +1,6 @@
 -- The walk over a good table's jobs by turn, as the code does it: what its arrays and its row of nine cells hold, that the cells fit, and
 -- that the last of them is the latest finish. Assumes nothing.
-use Prim.Native.Nat.{ℕ, zero, suc, ◌+◌, ◌-◌, ◌*◌, ◌/◌, ◌%◌, ◌≤◌, ◌<◌, zero-le}
+use Prim.Native.Nat.{ℕ, zero, suc, ◌+◌, ◌-◌, ◌*◌, ◌≤◌, ◌<◌, zero-le}
 use native.Mathlib.Numerals.{add-one}
 use native.Mathlib.Omega.{arith}
 use mathlib.Core.Path.{◌≡◌, refl, sym, ap, ◌∙◌, subst}
@@ -14,10 +14,10 @@ use Rattle.std.proofs.lemmas.List.{get_or-take}
 use Rattle.std.proofs.lemmas.List.Sums.{position_or_len_is}
 use Rattle.jobs.specs.Below.{listed}
 use lib.Seq.{get_or-set_same, get_or-set_other}
-use lib.Dec.{leb, ltb, eqb, lit<}
+use lib.Dec.{leb, ltb, eqb}
 use borrow.Author.Tests.{ne_eqb, eq-eqb, ltb-true, ltb-false, lt-ltb, le-ltb, le-leb, lt-leb, eqb-true, eqb-false}
 use borrow.Author.Count.{below_none, below_more}
-use Rattle.jobs.specs.Table.{jobs, word, ready, run, recovery}
+use Rattle.jobs.specs.Table.{jobs, ready, run, recovery}
 use Rattle.jobs.specs.Urgency.{urgent, job_at}
 use Rattle.jobs.specs.Orders.{the_job, the_rank, held, filled, by_urgency, by_ready}
 use Rattle.jobs.specs.Refusals.{fine, first, table_refusals}
@@ -164,9 +164,6 @@ module _ (table : List ℕ) (g : Good table) (job : ℕ) where
 
 -- ---- the rows by turn
 
-pub rows_none : (table : List ℕ) (d : Turn) → Rows table 0 (replicate 64 d)
-rows_none table d = record { long = length-replicate 64 d; each = λ q e l. absurd (omega arith) }
-
 pub rows_more : (table : List ℕ) (q : ℕ) (rows : List Turn) (x : Turn) → q < 64 → x ≡ row_of table (job_at_turn table q) (rank_of table (job_at_turn table q)) → Rows table q rows
     → Rows table (q + 1) (set rows q x)
 rows_more table q rows x m e h =
@@ -188,9 +185,6 @@ on_here r q mine d l = ap (λ (x : Turn). leb x.rank mine) (r.each q d l)
 module _ (table : List ℕ) (n mine : ℕ) where
   next_here : (q : ℕ) → q < n → on_turn table mine q ≡ true → Next table n mine q q
   next_here q l e = record { from = omega arith; up_to = omega arith; found = λ m. e; skipped = λ p h m. absurd (omega arith) }
-
-  pub fewer_turns : (q to : ℕ) → q < n → Next table n mine (q + 1) to → n - to < n - q
-  fewer_turns q to l h = omega (arith, h.from, h.up_to)
 
   next_later : (q to : ℕ) → on_turn table mine q ≡ false → Next table n mine (q + 1) to → Next table n mine q to
   next_later q to e h =

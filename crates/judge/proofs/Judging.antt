@@ -6,7 +6,7 @@ use native.Mathlib.Omega.{arith}
 use mathlib.Core.Path.{◌≡◌, sym, ap, ◌∙◌, subst}
 use mathlib.Core.Bool.{true, false, true≢false}
 use mathlib.Core.List.{List}
-use lib.ListN.{length, get_or, set, take, replicate, length-take, length-set, length-replicate}
+use lib.ListN.{length, get_or, set, take, length-take, length-set}
 use lib.Seq.{get_or-set_same, get_or-set_other}
 use Rattle.std.proofs.lemmas.List.{get_or-take}
 use lib.Dec.{eqb}
@@ -17,7 +17,6 @@ use Rattle.jobs.specs.Urgency.{urgent, position, job_at}
 use Rattle.jobs.specs.Orders.{the_job, by_urgency}
 use Rattle.jobs.specs.Arrays.{Holds}
 use Rattle.jobs.specs.declared.Job.{Job}
-use Rattle.jobs.specs.declared.Ranking.{Ranking}
 use Rattle.jobs.proofs.Below.{by_cases, below_suc}
 use Rattle.jobs.proofs.Urgency.{urgency_order}
 use Rattle.jobs.proofs.Orders.{rearranges, position_rises, job_at_below, job_of_rank}
@@ -36,9 +35,6 @@ pub record LateTo (table : List ℕ) (k q : ℕ) (late : List ℕ) : Type 0 wher
   pub each : (p : ℕ) → p < q → get_or late (job_at_turn table p) 0 ≡ latest table k (job_at_turn table p)
 
 module _ (table : List ℕ) (k : ℕ) where
-  pub late_none : LateTo table k 0 (replicate 64 0)
-  late_none = record { long = length-replicate {A = ℕ} 64 0; each = λ p l. absurd (omega arith) }
-
   pub late_more : (q at x : ℕ) (late : List ℕ) → at ≡ job_at_turn table q → at < 64 → x ≡ latest table k (job_at_turn table q) → LateTo table k q late
       → LateTo table k (q + 1) (set late at x)
   late_more q at x late e l f h =

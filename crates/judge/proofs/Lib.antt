@@ -3,4 +3,3 @@ pub mod Unwinding
 pub mod Judging
 pub mod Theorems
 pub mod Answers
-pub mod Margins

@@ -15,7 +15,7 @@ use Rattle.frame.proofs.Work.{arrivals, turn}
 use Rattle.latest.proofs.Walk.{job_at_turn, Walk, stops, stop, faults_at, unwind, best, walk_of}
 use Rattle.latest.proofs.Rows.{faults_within}
 use Rattle.judge.specs.Notes.{TrailOf, Unwound}
-use Rattle.judge.specs.declared.turns.Walk.{Walk as Trail}
+use Rattle.judge.specs.declared.turns.Trail.{Trail}
 
 -- past the turns that are unwound there are no faults
 unwind_past : (walk : Walk) (p w q : ℕ) → p ≤ q → unwind walk p w q ≡ 0

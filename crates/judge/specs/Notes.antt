@@ -6,12 +6,12 @@ use Rattle.jobs.specs.Urgency.{earlier, position}
 use Rattle.frame.specs.declared.Verdict.{Verdict}
 use Rattle.frame.specs.declared.Verdict.TheVariants.{Sound, Miss}
 use Rattle.latest.proofs.Walk.{stop, faults_at, best, walk_of}
-use Rattle.judge.specs.declared.turns.Walk.{Walk}
+use Rattle.judge.specs.declared.turns.Trail.{Trail}
 
 -- The notes of the walk for the judged job: where it stops, and the faults on each job before.
-pub record TrailOf (table : List ℕ) (k job : ℕ) (walk : Walk) : Type 0 where
-  pub stops_at : walk.stop ≡ stop (walk_of table job) k (jobs table)
-  pub notes : (q : ℕ) (d : List ℕ) → q < walk.stop → Holds 9 (get_or walk.picks q d) 9 (faults_at (walk_of table job) q)
+pub record TrailOf (table : List ℕ) (k job : ℕ) (trail : Trail) : Type 0 where
+  pub stops_at : trail.stop ≡ stop (walk_of table job) k (jobs table)
+  pub notes : (q : ℕ) (d : List ℕ) → q < trail.stop → Holds 9 (get_or trail.picks q d) 9 (faults_at (walk_of table job) q)
 
 -- The counts of the pattern that the walk hands out, by job number.
 pub record Unwound (table : List ℕ) (k job : ℕ) (counts : List ℕ) : Type 0 where

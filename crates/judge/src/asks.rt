@@ -36,7 +36,7 @@ fn judge_frame(table: &Table, k: Faults, finishes: &mut [u32], pattern: &mut [u3
     verdict
 }
 
-// Judge: the verdict, with the latest finishes and a pattern in the lent buffers; or the refusal.
+// Judge: the verdict, with the latest finishes and a pattern in the lent buffers; or the refusal, in the order 1, 2, 3, 4, 5, 6.
 pub fn judge(
     table: &[u32],
     k: u32,
@@ -63,7 +63,7 @@ fn hand_out(table: &Table, k: Faults, job: Job, pattern: &mut [u32])
     fill_from(pattern, &counts, table.jobs());
 }
 
-// Pattern of one job: a pattern that reaches that job's latest finish; or the refusal.
+// Pattern of one job: a pattern that reaches that job's latest finish; or the refusal, in the order 1, 2, 3, 4, 8, 6.
 pub fn pattern_of(table: &[u32], k: u32, job: u32, pattern: &mut [u32]) -> Result<(), Refusal>
     ensures { Reaching table.now k job pattern.old pattern.new result }
 {

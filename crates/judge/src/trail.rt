@@ -6,12 +6,12 @@ ghost use Rattle.frame.specs.Latest.{verdict as verdict_of};
 ghost use Rattle.latest.proofs.Walk.{job_at_turn};
 ghost use Rattle.judge.specs.Notes.{TrailOf, Unwound, CountsFor};
 
-use crate::turns::{Turns, Walk};
+use crate::turns::{Trail, Turns};
 use frame::Verdict;
 use jobs::{Faults, Job};
 
-// Where a job stands in a list.
-fn place_of(job: Job, list: &[Job]) -> Option<usize>
+// The index of a job in a list.
+fn index_of(job: Job, list: &[Job]) -> Option<usize>
     ensures { result ≡ position (λ (other : Job). other.0 == job.0) list.now }
 {
     list.iter().position(|other| other.0 == job.0)
@@ -24,19 +24,19 @@ impl<'a> Turns<'a> {
         ensures below { result < jobs self.now }
         ensures at { job_at_turn self.now result ≡ job.0 }
     {
-        let found = place_of(job, &self.order.job[..self.n]);
+        let found = index_of(job, &self.order.job[..self.n]);
         found.unwrap_or(0)
     }
 
     // The faults of each job, by job number: the notes unwound from where the walk stops.
-    fn unwound(&self, walk: &Walk, k: Faults, own: usize) -> [u32; 64]
-        requires { TrailOf self.now k.k (job_at_turn self.now own) walk.now }
+    fn unwound(&self, trail: &Trail, k: Faults, own: usize) -> [u32; 64]
+        requires { TrailOf self.now k.k (job_at_turn self.now own) trail.now }
         ensures { Unwound self.now k.k (job_at_turn self.now own) result }
     {
         let mut counts = [0; 64];
         let mut w = k.k;
-        for p in (0..walk.stop).rev() {
-            let faults = walk.picks[p][w];
+        for p in (0..trail.stop).rev() {
+            let faults = trail.picks[p][w];
             let job = self.order.job[p];
             counts[job.0] = u32::from(faults);
             w -= usize::from(faults);
@@ -50,8 +50,8 @@ impl<'a> Turns<'a> {
         ensures { Unwound self.now k.k job.0 result }
     {
         let own = self.turn_of(job);
-        let walk = self.walk::<true>(k, own);
-        self.unwound(&walk, k, own)
+        let trail = self.walk::<true>(k, own);
+        self.unwound(&trail, k, own)
     }
 
     // The counts of the pattern for a verdict: on a miss one that reaches the named job's latest finish, on sound all zeros.

@@ -1,10 +1,8 @@
 -- `judge::asks::fill_from` meets its contract: the words that are copied are the first n results. Assumes nothing.
-use mathlib.Core.Path.{◌∙◌, ap, sym}
+use mathlib.Core.Path.{◌∙◌, ap}
 use mathlib.Core.List.{List, ◌++◌}
-use native.Mathlib.Omega.{arith}
 use Prim.Native.Nat.{ℕ}
 use lib.ListN.{drop}
-use Rattle.std.proofs.Common.{rules}
 use Rattle.schedule.specs.Asks.{fill}
 use Rattle.judge.proofs.Answers.{take_listed}
 use Rattle.judge.proofs.asks.fill_from.Goals as goal

@@ -1,6 +1,5 @@
 -- `judge::row::picks_of` meets its contract: after w turns the first w cells hold the picks, each made from the one before it.
 -- Assumes nothing.
-use native.Mathlib.Omega.{arith}
 use Prim.Native.Nat.{ℕ, suc, ◌-◌}
 use mathlib.Core.Path.{refl, ◌∙◌, sym, ap}
 use mathlib.Core.Bool.{cond}

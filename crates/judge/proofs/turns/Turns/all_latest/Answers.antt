@@ -2,7 +2,6 @@
 -- Assumes nothing.
 use native.Mathlib.Omega.{arith}
 use native.Mathlib.Nat.{lt_of_lt_of_le}
-use mathlib.Core.Path.{◌∙◌}
 use Rattle.judge.proofs.ByTurn.{turn-job, turn_below}
 use Rattle.judge.proofs.Judging.{late_more, late_all}
 use Rattle.judge.proofs.turns.Turns.all_latest.Goals as goal

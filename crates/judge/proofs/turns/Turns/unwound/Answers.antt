@@ -3,7 +3,6 @@
 use native.Mathlib.Omega.{arith}
 use native.Mathlib.Nat.{lt_of_lt_of_le, le_antisymm}
 use Prim.Native.Nat.{◌-◌, ◌<◌, zero-le}
-use mathlib.Core.Path.{◌≡◌, sym, ◌∙◌}
 use mathlib.Core.List.{[]}
 use Rattle.latest.proofs.Walk.{job_at_turn}
 use Rattle.judge.proofs.ByTurn.{turn-job, turn_below}
@@ -34,7 +33,7 @@ overflow_sub-w c =
     let t = c.self.inside.words.now in
     let few : c.loop-p.w < 9 = omega (arith, c.loop-p.invariant.few, a.k.few) in
     rw c.from-w.ensures
-    (note_within t a.k.k (job_at_turn t a.own) a.walk.now c.loop-p.p c.loop-p.w [] c.loop-p.counts (trail_here a.k.k a.own c.self.view_is c.requires) c.loop-p-test.true few c.loop-p.invariant)
+    (note_within t a.k.k (job_at_turn t a.own) a.trail.now c.loop-p.p c.loop-p.w [] c.loop-p.counts (trail_here a.k.k a.own c.self.view_is c.requires) c.loop-p-test.true few c.loop-p.invariant)
 
 pub loop-p-preserved : goal.loop-p-preserved
 loop-p-preserved c =
@@ -46,7 +45,7 @@ loop-p-preserved c =
     let job = job_at_turn t a.own in
     let few : c.loop-p.w < 9 = omega (arith, c.loop-p.invariant.few, a.k.few) in
     let before = turn_before t a.k.k job i.n p c.loop-p.w c.loop-p.counts b.all c.loop-p-test.true c.loop-p.invariant in
-    let note = note_is t a.k.k job a.walk.now p c.loop-p.w [] c.loop-p.counts (trail_here a.k.k a.own c.self.view_is c.requires) c.loop-p-test.true few c.loop-p.invariant in
+    let note = note_is t a.k.k job a.trail.now p c.loop-p.w [] c.loop-p.counts (trail_here a.k.k a.own c.self.view_is c.requires) c.loop-p-test.true few c.loop-p.invariant in
     rw (c.from.ensures, c.from-w.ensures)
     (unwinding_more t a.k.k job p c.loop-p.w _ _ c.loop-p.counts c.loop-p-test.true (rw b.all at b.few) (turn-job t i.order i.n (p - 1) b.arrivals b.all b.few before) note c.loop-p.invariant)
 
