@@ -151,5 +151,5 @@ pub fn report(file: &[u8], buffer: &mut [u8]) -> usize
 {
     let mut text = Text::new(buffer);
     put_report(&mut text, file);
-    text.len()
+    text.at
 }

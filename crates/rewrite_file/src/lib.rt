@@ -53,5 +53,5 @@ pub fn rewrite(file: &[u8], buffer: &mut [u8]) -> usize
 {
     let mut text = Text::new(buffer);
     put_rewritten(&mut text, file);
-    text.len()
+    text.at
 }

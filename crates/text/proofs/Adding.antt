@@ -88,6 +88,15 @@ adds_part piece buffer part at n l e h =
       next = omega (arith, e);
     }
 
+-- where there is no room, nothing
+pub adds_no_more : (piece buffer : List ℕ) (at : ℕ) → min (length piece) (length buffer - at) ≡ 0 → Adds piece buffer at buffer at
+adds_no_more piece buffer at e =
+    let room : length (drop at buffer) ≡ length buffer - at = length-drop at buffer in
+    record {
+      lies = sym (ap (λ rest. take at buffer ++ rest) (laid_min piece (drop at buffer) 0 (omega (arith, room, e))) ∙ take-append-drop at buffer);
+      next = omega (arith, e);
+    }
+
 -- from the start of the buffer
 pub adds-all : (text old buffer : List ℕ) (at : ℕ) → Adds text old 0 buffer at → (buffer ≡ laid text old) × (at ≡ min (length text) (length old))
 adds-all text old buffer at a = (a.lies, omega (arith, a.next))

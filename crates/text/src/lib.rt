@@ -10,13 +10,11 @@ use jobs::Refusal;
 // The most bytes that an input may have.
 pub const MOST_BYTES: usize = 32_768;
 
-// A text that grows in a lent buffer: its bytes lie at the buffer's start, and the next one goes after them. What the buffer has no room for is left
-// out.
+// A text that grows in a lent buffer, and where its next byte goes. What the buffer has no room for is left out.
 #[derive(Drop)]
 pub struct Text<'a> {
-    buffer: &'a mut [u8],
-    at: usize,
-    ghost within: { at ≤ length buffer.now },
+    pub buffer: &'a mut [u8],
+    pub at: usize,
 }
 
 impl<'a> Text<'a> {
@@ -29,21 +27,17 @@ impl<'a> Text<'a> {
         Text { buffer, at: 0 }
     }
 
-    // How many bytes the text has.
-    pub fn len(&self) -> usize
-        ensures { result ≡ self.now.at }
-    {
-        self.at
-    }
-
     // Bytes.
     pub fn put(&mut self, bytes: &[u8])
         ensures { Puts bytes.now self.old self.new }
     {
-        let count = bytes.len().min(self.buffer.len() - self.at);
-        let end = self.at + count;
-        self.buffer[self.at..end].copy_from_slice(&bytes[..count]);
-        self.at = end;
+        let room = self.buffer.len().saturating_sub(self.at);
+        let count = bytes.len().min(room);
+        if 0 < count {
+            let end = self.at + count;
+            self.buffer[self.at..end].copy_from_slice(&bytes[..count]);
+            self.at = end;
+        }
     }
 
     // A number in decimal.
