@@ -22,13 +22,13 @@ use Rattle.jobs.proofs.Refusals.{Good, good}
 use Rattle.jobs.proofs.Arrays.{holds_same, holds_zeros}
 use Rattle.frame.specs.Schedule.{free_slots}
 use Rattle.frame.specs.Delays.{fault_free, delay}
-use Rattle.schedule.specs.Asks.{fault_free_finishes, too_late, fill}
+use Rattle.schedule.specs.Asks.{fault_free_finishes, fill}
 use Rattle.schedule.proofs.Fill.{written-fill}
 use Rattle.delays.specs.Rows.{next_row, rows}
 use Rattle.delays.specs.Places.{place_of, job_at_place, last_finish, free_at, recovery_at, delay_row}
 use Rattle.delays.proofs.Rows.{next_same, rows_fit}
 use Rattle.delays.proofs.Places.{places}
-use Rattle.delays.proofs.Asked.{Finishes, fault_free_finishes_lem, finishes_in_time}
+use Rattle.delays.proofs.Asked.{Finishes, fault_free_finishes_lem}
 use Rattle.delays.proofs.Formula.{delay_is_formula}
 
 -- ---- what a turn knows
@@ -90,10 +90,6 @@ module _ {table : List ℕ} {k : ℕ} {buffer : List ℕ} {p : ℕ} {cells : Lis
   module _ {finishes : List ℕ} {job : Job} (t : Turn table finishes p job) where
     at : job.0 ≡ job_at_place table p
     at = ap (λ j. j.0) t.here
-
-    -- the free slots since the last finish may be asked
-    pub next_in_time : too_late last (get_or finishes job.0 0) ≡ fine
-    next_in_time = rw (w.since, t.ends) (finishes_in_time table t.good p job.0 (omega (arith, t.below)) t.job_below)
 
     -- another job of the first p + 1 places is one of the first p
     earlier_place : (i : ℕ) → i < jobs table → (i ≡ job.0 → ⊥) → place_of table i < p + 1 → place_of table i < p

@@ -11,23 +11,13 @@ mod row;
 
 ghost use Rattle.std.specs.Prelude.{◌≡◌, ◌≤◌, length};
 ghost use Rattle.jobs.specs.Table.{jobs};
-ghost use Rattle.jobs.specs.Refusals.{fine};
-ghost use Rattle.frame.specs.Schedule.{free_slots};
 ghost use Rattle.frame.specs.Delays.{delay};
-ghost use Rattle.schedule.specs.Asks.{too_late, fill};
+ghost use Rattle.schedule.specs.Asks.{fill};
 ghost use Rattle.delays.specs.Ask.{Delayed};
 
 use crate::row::next_row;
 use jobs::{Faults, Reason, Refusal, Table, given, in_order, recovery};
-use schedule::{fault_free, free_slots};
-
-// The free slots between two times that are not too late to be asked of.
-fn free_between(table: &Table, a: u32, b: u32) -> u32
-    requires { too_late a b ≡ fine }
-    ensures { result ≡ free_slots table.now a b }
-{
-    free_slots(table.words(), a, b).unwrap()
-}
+use schedule::{fault_free, idle_between};
 
 // The walk over the finishes in their order: each row is made from the last, and its entry for k is the delay of the job that finishes there.
 fn fill_delays(table: &Table, faults: Faults, delays: &mut [u32])
@@ -42,7 +32,7 @@ fn fill_delays(table: &Table, faults: Faults, delays: &mut [u32])
     let mut last = 0;
     for &job in &order[..n] {
         let end = finishes[job.0];
-        let free = free_between(table, last, end);
+        let free = idle_between(table, last, end);
         row = next_row(row, free, recovery(words, job));
         delays[job.0] = row[faults.k];
         last = end;

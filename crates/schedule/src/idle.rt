@@ -34,7 +34,7 @@ fn idle_before(table: &Table, arrivals: &[Job], t: u32) -> u32
 }
 
 // The idle slots t with a ≤ t < b: those before b that are not before a.
-fn idle_between(table: &Table, a: u32, b: u32) -> u32
+pub fn idle_between(table: &Table, a: u32, b: u32) -> u32
     ensures { result ≡ free_slots table.now a b }
 {
     if b <= a {

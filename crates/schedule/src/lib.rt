@@ -6,4 +6,4 @@ mod events;
 mod idle;
 
 pub use events::{fault_free, schedule};
-pub use idle::free_slots;
+pub use idle::{free_slots, idle_between};

@@ -4,7 +4,7 @@
 use native.Mathlib.Omega.{arith}
 use lib.ListN.{get_or, take}
 use Rattle.jobs.specs.Orders.{the_job}
-use Rattle.delays.proofs.Walk.{Turn, turn_at, turns, walked_none, next_in_time, next_fits, walked_more, walked_done}
+use Rattle.delays.proofs.Walk.{Turn, turn_at, turns, walked_none, next_fits, walked_more, walked_done}
 use Rattle.delays.proofs.fill_delays.Goals as goal
 use Rattle.delays.proofs.fill_delays.Goals.{In-loop-job}
 
@@ -27,12 +27,9 @@ bounds-finishes-job c = let t = turn (goal.at.bounds-finishes-job c).In-loop-job
 pub offset_bounds-finishes-job : goal.offset_bounds-finishes-job
 offset_bounds-finishes-job c = let t = turn (goal.at.offset_bounds-finishes-job c).In-loop-job in omega (arith, t.job_below, t.good.few_jobs)
 
-pub free_between-free-requires : goal.free_between-free-requires
-free_between-free-requires c = next_in_time c.loop-job.invariant (turn (goal.at.free_between-free-requires c).In-loop-job)
-
 pub next_row-row-requires : goal.next_row-row-requires
 next_row-row-requires c =
-    next_fits c.loop-job.invariant (turn (goal.at.next_row-row-requires c).In-loop-job) c.free_between-free.ensures (rw c.words-words.ensures.all at c.recovery.ensures)
+    next_fits c.loop-job.invariant (turn (goal.at.next_row-row-requires c).In-loop-job) c.idle_between-free.ensures (rw c.words-words.ensures.all at c.recovery.ensures)
 
 pub bounds-delays-job : goal.bounds-delays-job
 bounds-delays-job c = omega (arith, (turn (goal.at.bounds-delays-job c).In-loop-job).job_below, c.loop-job.invariant.long, c.requires)
@@ -42,7 +39,7 @@ offset_bounds-delays-job c = let t = turn (goal.at.offset_bounds-delays-job c).I
 
 pub loop-job-preserved : goal.loop-job-preserved
 loop-job-preserved c =
-    walked_more c.loop-job.invariant (turn (goal.at.loop-job-preserved c).In-loop-job) c.free_between-free.ensures (rw c.words-words.ensures.all at c.recovery.ensures) c.args.faults.few c.next_row-row.ensures c.requires
+    walked_more c.loop-job.invariant (turn (goal.at.loop-job-preserved c).In-loop-job) c.idle_between-free.ensures (rw c.words-words.ensures.all at c.recovery.ensures) c.args.faults.few c.next_row-row.ensures c.requires
 
 -- ---- after the last turn
 
