@@ -8,7 +8,7 @@ use crate::turns::Turns;
 use frame::Verdict;
 use jobs::Faults;
 
-impl<'a> Turns<'a> {
+impl<'a, 'b> Turns<'a, 'b> {
     // The latest finish of each job, by job number.
     pub(crate) fn all_latest(&self, k: Faults) -> [u32; 64]
         ensures { Holds 64 result (jobs self.now) (latest self.now k.k) }
@@ -26,7 +26,7 @@ impl<'a> Turns<'a> {
         requires { Holds 64 late.now (jobs self.now) (latest self.now k.k) }
         ensures { result ≡ verdict self.now k.k }
     {
-        for job in &self.by_rank[..self.n] {
+        for job in &self.ranking.job[..self.n] {
             let end = late[job.0];
             if jobs::deadline(self.words, *job) < end {
                 return Verdict::Miss(*job, end);

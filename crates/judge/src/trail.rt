@@ -17,7 +17,7 @@ fn index_of(job: Job, list: &[Job]) -> Option<usize>
     list.iter().position(|other| other.0 == job.0)
 }
 
-impl<'a> Turns<'a> {
+impl<'a, 'b> Turns<'a, 'b> {
     // The turn of a job.
     fn turn_of(&self, job: Job) -> usize
         requires { job.0 < jobs self.now }

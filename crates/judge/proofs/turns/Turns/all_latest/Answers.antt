@@ -10,7 +10,7 @@ pub bounds-late-job : goal.bounds-late-job
 bounds-late-job c =
     let i = c.self.inside in
     let b = c.self.invariant in
-    lt_of_lt_of_le (turn_below i.words.now i.order i.n c.loop-q.q b.arrivals b.all b.few c.loop-q-test.true) b.few
+    lt_of_lt_of_le (turn_below i.words.now i.order.now i.n c.loop-q.q b.arrivals b.all b.few c.loop-q-test.true) b.few
 
 pub offset_bounds-late-job : goal.offset_bounds-late-job
 offset_bounds-late-job c = omega (arith, bounds-late-job c)
@@ -20,7 +20,7 @@ loop-q-preserved c =
     let i = c.self.inside in
     let b = c.self.invariant in
     late_more i.words.now c.args.k.k c.loop-q.q _ c.latest_at.result c.loop-q.late
-    (turn-job i.words.now i.order i.n c.loop-q.q b.arrivals b.all b.few c.loop-q-test.true)
+    (turn-job i.words.now i.order.now i.n c.loop-q.q b.arrivals b.all b.few c.loop-q-test.true)
     (bounds-late-job c)
     (rw c.self.view_is c.latest_at.ensures)
     c.loop-q.invariant

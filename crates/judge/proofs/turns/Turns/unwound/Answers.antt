@@ -22,7 +22,7 @@ bounds-counts-job c =
     let b = c.self.invariant in
     let p = c.loop-p.p in
     let before = turn_before i.words.now a.k.k (job_at_turn i.words.now a.own) i.n p c.loop-p.w c.loop-p.counts b.all c.loop-p-test.true c.loop-p.invariant in
-    lt_of_lt_of_le (turn_below i.words.now i.order i.n (p - 1) b.arrivals b.all b.few before) b.few
+    lt_of_lt_of_le (turn_below i.words.now i.order.now i.n (p - 1) b.arrivals b.all b.few before) b.few
 
 pub offset_bounds-counts-job : goal.offset_bounds-counts-job
 offset_bounds-counts-job c = omega (arith, bounds-counts-job c)
@@ -47,7 +47,7 @@ loop-p-preserved c =
     let before = turn_before t a.k.k job i.n p c.loop-p.w c.loop-p.counts b.all c.loop-p-test.true c.loop-p.invariant in
     let note = note_is t a.k.k job a.trail.now p c.loop-p.w [] c.loop-p.counts (trail_here a.k.k a.own c.self.view_is c.requires) c.loop-p-test.true few c.loop-p.invariant in
     rw (c.from.ensures, c.from-w.ensures)
-    (unwinding_more t a.k.k job p c.loop-p.w _ _ c.loop-p.counts c.loop-p-test.true (rw b.all at b.few) (turn-job t i.order i.n (p - 1) b.arrivals b.all b.few before) note c.loop-p.invariant)
+    (unwinding_more t a.k.k job p c.loop-p.w _ _ c.loop-p.counts c.loop-p-test.true (rw b.all at b.few) (turn-job t i.order.now i.n (p - 1) b.arrivals b.all b.few before) note c.loop-p.invariant)
 
 pub returns : goal.returns
 returns c =
