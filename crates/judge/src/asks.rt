@@ -27,9 +27,9 @@ fn judge_frame(table: &Table, k: Faults, finishes: &mut [u32], pattern: &mut [u3
     ensures handed_for { HandedFor table.now k.k result pattern.old pattern.new }
 {
     let n = table.jobs();
-    let order = jobs::by_ready(table.words());
-    let ranking = jobs::by_urgency(table.words());
-    let turns = Turns::new(table, &order, &ranking);
+    let order = &jobs::by_ready(table.words());
+    let ranking = &jobs::by_urgency(table.words());
+    let turns = Turns::new(table, order, ranking);
     let late = turns.all_latest(k);
     let verdict = turns.verdict_on(&late, k);
     let counts = turns.counts_for(verdict, k);
@@ -60,9 +60,9 @@ fn hand_out(table: &Table, k: Faults, job: Job, pattern: &mut [u32])
     requires { (job.0 < jobs table.now) × (jobs table.now ≤ length pattern.old) }
     ensures { Handed table.now k.k job.0 pattern.old pattern.new }
 {
-    let order = jobs::by_ready(table.words());
-    let ranking = jobs::by_urgency(table.words());
-    let turns = Turns::new(table, &order, &ranking);
+    let order = &jobs::by_ready(table.words());
+    let ranking = &jobs::by_urgency(table.words());
+    let turns = Turns::new(table, order, ranking);
     let counts = turns.counts_of(k, job);
     fill_from(pattern, &counts, table.jobs());
 }
