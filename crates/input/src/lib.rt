@@ -12,7 +12,7 @@ use std::io::{Read, Write};
 // The most bytes of an input that are read.
 const MOST_READ: usize = 65_536;
 
-// Reads until a read brings nothing or fails, or the buffer is full; how many bytes were read.
+// Reads until a read brings nothing or fails, or the buffer is full; how many bytes were read, which no method of the library tells where a read fails.
 fn read_full<R: Read>(input: &mut R, buffer: &mut [u8]) -> usize
     ensures within { result ≤ length buffer.new }
     ensures bytes { Consumes (R.remaining input.old) (R.remaining input.new) (take result buffer.new) }

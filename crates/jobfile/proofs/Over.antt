@@ -31,9 +31,6 @@ over_one_more xs t i x h l e =
 pub lent : {A : Type 0} (t : List A) (at k : ℕ) → length t ≤ at + k → mid_of at k t ≡ drop at t
 lent t at k h = take_all k (drop at t) (omega (arith, length-drop at t))
 
-pub part_length : {A : Type 0} (t : List A) (at : ℕ) → length (take (length t - at) (drop at t)) ≡ length t - at
-part_length t at = length-take-le (length t - at) (drop at t) (omega (arith, length-drop at t))
-
 -- a block laid over the rest that was lent, and come back
 pub over_block : (done block t : List ℕ) (at k : ℕ) → length done ≡ at → length t ≤ at + k → length done ≤ length t
     → put_mid at k (over done t) (over block (mid_of at k (over done t))) ≡ over (done ++ block) t

@@ -2,9 +2,8 @@
 
 #![tactic(auto)]
 
-ghost use Rattle.std.specs.Prelude.{◌≡◌, cond, ◌+◌, ◌≤◌, ◌<◌, length, get_or, drop};
-ghost use Rattle.jobs.specs.Table.{row_words};
-ghost use Rattle.jobfile.specs.Bytes.{number_at, over};
+ghost use Rattle.std.specs.Prelude.{◌≡◌, cond, ◌+◌, ◌≤◌, length};
+ghost use Rattle.jobfile.specs.Bytes.{number_at};
 ghost use Rattle.jobfile.specs.Reading.{met, at_after, n_after, k_after};
 ghost use Rattle.jobfile.specs.Meaning.{headless_k, length_of, row_of, strays, head_at, job_at, record_at, headed, meaning, answered, filled, Good, ReadsTo};
 

@@ -31,9 +31,6 @@ holds_more size array n g x l h e =
 pub holds_same : (size : ℕ) (array : List ℕ) (n : ℕ) (f g : ℕ → ℕ) → Holds size array n f → ((i : ℕ) → i < n → f i ≡ g i) → Holds size array n g
 holds_same size array n f g h e = record { long = h.long; each = λ i l. h.each i l ∙ e i l }
 
-pub holds_to : (size : ℕ) (array : List ℕ) (n m : ℕ) (g : ℕ → ℕ) → n ≡ m → Holds size array n g → Holds size array m g
-holds_to size array n m g e h = rw e at h
-
 pub holds_zeros : (size : ℕ) → Holds size (replicate size 0) size (λ i. 0)
 holds_zeros size = record { long = length-replicate size 0; each = λ i l. get_or-replicate size i 0 0 l }
 

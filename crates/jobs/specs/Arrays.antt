@@ -1,4 +1,4 @@
--- What an array holds. The private functions compute by it; no promise of an ask rests on it.
+-- What an array holds. No promise of an ask rests on it.
 use Rattle.std.specs.Prelude.{ℕ, ◌^◌, ◌<◌, ◌≡◌, List, length, get_or}
 
 -- An array of `size` words, the first n of which hold these values.

@@ -20,19 +20,19 @@ fn fill_from(buffer: &mut [u32], results: &[u32; 64], n: usize)
 }
 
 // Judges a frame that is not refused.
-fn judge_frame(table: &Table, k: Faults, finishes: &mut [u32], pattern: &mut [u32]) -> Verdict
+fn judge_frame(table: &Table, faults: Faults, finishes: &mut [u32], pattern: &mut [u32]) -> Verdict
     requires { (jobs table.now ≤ length finishes.old) × (jobs table.now ≤ length pattern.old) }
-    ensures value { result ≡ verdict_of table.now k.k }
-    ensures finishes_after { finishes.new ≡ fill (jobs table.now) (latest table.now k.k) finishes.old }
-    ensures handed_for { HandedFor table.now k.k result pattern.old pattern.new }
+    ensures value { result ≡ verdict_of table.now faults.k }
+    ensures finishes_after { finishes.new ≡ fill (jobs table.now) (latest table.now faults.k) finishes.old }
+    ensures handed_for { HandedFor table.now faults.k result pattern.old pattern.new }
 {
     let n = table.jobs();
     let order = &jobs::by_ready(table.words());
     let ranking = &jobs::by_urgency(table.words());
     let turns = Turns::new(table, order, ranking);
-    let late = turns.all_latest(k);
-    let verdict = turns.verdict_on(&late, k);
-    let counts = turns.counts_for(verdict, k);
+    let late = turns.all_latest(faults);
+    let verdict = turns.verdict_on(&late, faults);
+    let counts = turns.counts_for(verdict, faults);
     fill_from(finishes, &late, n);
     fill_from(pattern, &counts, n);
     verdict
@@ -48,22 +48,22 @@ pub fn judge(
     ensures { Judging table.now k finishes.old finishes.new pattern.old pattern.new result }
 {
     let table = Table::new(table)?;
-    let k = Faults::try_from(k)?;
+    let faults = Faults::try_from(k)?;
     let n = table.jobs();
     given(finishes.len() < n, Reason::ShortBuffer, n)?;
     given(pattern.len() < n, Reason::WrongPattern, n)?;
-    Ok(judge_frame(&table, k, finishes, pattern))
+    Ok(judge_frame(&table, faults, finishes, pattern))
 }
 
 // The pattern of one job of a frame that is not refused.
-fn hand_out(table: &Table, k: Faults, job: Job, pattern: &mut [u32])
+fn hand_out(table: &Table, faults: Faults, job: Job, pattern: &mut [u32])
     requires { (job.0 < jobs table.now) × (jobs table.now ≤ length pattern.old) }
-    ensures { Handed table.now k.k job.0 pattern.old pattern.new }
+    ensures { Handed table.now faults.k job.0 pattern.old pattern.new }
 {
     let order = &jobs::by_ready(table.words());
     let ranking = &jobs::by_urgency(table.words());
     let turns = Turns::new(table, order, ranking);
-    let counts = turns.counts_of(k, job);
+    let counts = turns.counts_of(faults, job);
     fill_from(pattern, &counts, table.jobs());
 }
 
@@ -72,12 +72,12 @@ pub fn pattern_of(table: &[u32], k: u32, job: u32, pattern: &mut [u32]) -> Resul
     ensures { Reaching table.now k job pattern.old pattern.new result }
 {
     let table = Table::new(table)?;
-    let k = Faults::try_from(k)?;
+    let faults = Faults::try_from(k)?;
     let job = Job(job as usize);
     let n = table.jobs();
     given(n <= job.0, Reason::NoSuchJob, 0)?;
     given(pattern.len() < n, Reason::WrongPattern, n)?;
-    hand_out(&table, k, job, pattern);
+    hand_out(&table, faults, job, pattern);
     Ok(())
 }
 

@@ -14,7 +14,7 @@ use jobs::{Faults, Job};
 fn index_of(job: Job, list: &[Job]) -> Option<usize>
     ensures { result ≡ position (λ (other : Job). other.0 == job.0) list.now }
 {
-    list.iter().position(|other| other.0 == job.0)
+    list.iter().position(|other| *other == job)
 }
 
 impl<'a, 'b> Turns<'a, 'b> {
@@ -29,12 +29,12 @@ impl<'a, 'b> Turns<'a, 'b> {
     }
 
     // The faults of each job, by job number: the notes unwound from where the walk stops.
-    fn unwound(&self, trail: &Trail, k: Faults, own: usize) -> [u32; 64]
-        requires { TrailOf self.now k.k (job_at_turn self.now own) trail.now }
-        ensures { Unwound self.now k.k (job_at_turn self.now own) result }
+    fn unwound(&self, trail: &Trail, faults: Faults, own: usize) -> [u32; 64]
+        requires { TrailOf self.now faults.k (job_at_turn self.now own) trail.now }
+        ensures { Unwound self.now faults.k (job_at_turn self.now own) result }
     {
         let mut counts = [0; 64];
-        let mut w = k.k;
+        let mut w = faults.k;
         for p in (0..trail.stop).rev() {
             let faults = trail.picks[p][w];
             let job = self.order.job[p];
@@ -45,23 +45,23 @@ impl<'a, 'b> Turns<'a, 'b> {
     }
 
     // The counts of a pattern that reaches a job's latest finish, by job number.
-    pub(crate) fn counts_of(&self, k: Faults, job: Job) -> [u32; 64]
+    pub(crate) fn counts_of(&self, faults: Faults, job: Job) -> [u32; 64]
         requires { job.0 < jobs self.now }
-        ensures { Unwound self.now k.k job.0 result }
+        ensures { Unwound self.now faults.k job.0 result }
     {
         let own = self.turn_of(job);
-        let trail = self.walk::<true>(k, own);
-        self.unwound(&trail, k, own)
+        let trail = self.walk::<true>(faults, own);
+        self.unwound(&trail, faults, own)
     }
 
     // The counts of the pattern for a verdict: on a miss one that reaches the named job's latest finish, on sound all zeros.
-    pub(crate) fn counts_for(&self, verdict: Verdict, k: Faults) -> [u32; 64]
-        requires { verdict ≡ verdict_of self.now k.k }
-        ensures { CountsFor self.now k.k verdict result }
+    pub(crate) fn counts_for(&self, verdict: Verdict, faults: Faults) -> [u32; 64]
+        requires { verdict ≡ verdict_of self.now faults.k }
+        ensures { CountsFor self.now faults.k verdict result }
     {
         match verdict {
             Verdict::Sound => [0; 64],
-            Verdict::Miss(job, _) => self.counts_of(k, job),
+            Verdict::Miss(job, _) => self.counts_of(faults, job),
         }
     }
 }

@@ -2,9 +2,9 @@
 
 #![tactic(auto)]
 
-ghost use Rattle.std.specs.Prelude.{◌≡◌, ◌*◌, ◌≤◌, ◌<◌, length, get_or, take, ltb};
+ghost use Rattle.std.specs.Prelude.{◌≡◌, ◌≤◌, ◌<◌, length, ltb};
 ghost use Rattle.std.proofs.Math.IntN.{sub_ℕ};
-ghost use Rattle.jobs.specs.Table.{row_words, jobs, deadline};
+ghost use Rattle.jobs.specs.Table.{jobs, deadline};
 ghost use Rattle.jobs.specs.Arrays.{values};
 ghost use Rattle.jobs.specs.Refusals.{fine, first, table_refusals};
 ghost use Rattle.jobfile.specs.Meaning.{meaning};

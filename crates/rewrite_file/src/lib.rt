@@ -21,7 +21,7 @@ fn has_head(file: &[u8]) -> bool
     file.starts_with(&[3])
 }
 
-// A good file with a head: a missing one becomes a head of 1.
+// A good file, with a head of 1 if it has none.
 fn put_with_head(text: &mut Text<'_>, file: &[u8])
     requires { Good file.now 256 }
     ensures { Puts (with_head file.now) text.old text.new }

@@ -84,7 +84,7 @@ fn to_come(ready: u32, time: u32) -> u32
     if time < ready { ready } else { NEVER }
 }
 
-// The next time at which a job becomes ready, if there is one.
+// The next time at which a job becomes ready, if there is one. Every event takes it: a least number with NEVER for none is faster here than one of options.
 fn next_ready(times: &[u32], time: u32) -> Option<u32>
     ensures { ComesNext times.now time result }
 {
@@ -102,7 +102,7 @@ fn waits(ready: u32, left: u32, time: u32) -> bool
     ready <= time && 0 < left
 }
 
-// The most urgent waiting job: the first that waits of the jobs sorted by urgency.
+// The most urgent waiting job: the first that waits of the jobs sorted by urgency. Every event takes it too, and the loop is faster than `find`.
 fn pick(sorted: &[Job], times: &[u32], left: &[u32], time: u32) -> Option<Job>
     requires { All (λ job. (job.0 < length times.now) × (job.0 < length left.now)) sorted.now }
     ensures { result ≡ find (waiting times.now left.now time) sorted.now }

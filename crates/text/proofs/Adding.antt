@@ -1,4 +1,4 @@
--- A text grows in a buffer piece by piece: nothing, one byte, one piece after another, and nothing more where the buffer is full.
+-- A text grows in a buffer piece by piece: nothing, as much of a piece as there is room for, one piece after another, and nothing more where the buffer is full.
 -- One piece after another is the two laid over the buffer as one, since the second goes where the first ends, or the buffer does.
 -- Assumes nothing.
 use Prim.Native.Nat.{ℕ, zero, suc, ◌+◌, ◌-◌, ◌≤◌, min}

@@ -2,7 +2,7 @@
 
 #![tactic(auto)]
 
-ghost use Rattle.std.specs.Prelude.{◌≡◌, ◌≤◌, ◌++◌, length};
+ghost use Rattle.std.specs.Prelude.{◌++◌};
 ghost use Rattle.text.specs.Text.{decimal, signed, refusal as line_of, too_long};
 
 use jobs::Refusal;
@@ -67,12 +67,27 @@ impl<'a> Text<'a> {
         self.put_decimal(n.unsigned_abs());
     }
 
+    // The number of a refusal: 20 to 25, which reading a file gives, and every other one.
+    fn put_number(&mut self, number: u32)
+        ensures { Puts (decimal number) self.old self.new }
+    {
+        match number {
+            20 => self.put(b"20"),
+            21 => self.put(b"21"),
+            22 => self.put(b"22"),
+            23 => self.put(b"23"),
+            24 => self.put(b"24"),
+            25 => self.put(b"25"),
+            _ => self.put_decimal(u64::from(number)),
+        }
+    }
+
     // The line of a refusal.
     pub fn put_refusal(&mut self, refusal: Refusal)
         ensures { Puts (line_of refusal) self.old self.new }
     {
-        let number = u32::from(refusal.reason);
-        self.put_labelled(b"refused ", u64::from(number));
+        self.put(b"refused ");
+        self.put_number(u32::from(refusal.reason));
         self.put_labelled(b" at ", refusal.place as u64);
         self.put(b"\n");
     }

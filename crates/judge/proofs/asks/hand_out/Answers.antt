@@ -10,5 +10,5 @@ pub returns : goal.returns
 returns c =
     let a = c.args in
     let counts = c.counts_of-counts.result in
-    counts_handed a.table.now a.k.k a.job.0 counts a.pattern.now c.fill_from.new.buffer c.new-turns.ensures.good c.requires.0 (rw c.new-turns.ensures.same at c.counts_of-counts.ensures)
+    counts_handed a.table.now a.faults.k a.job.0 counts a.pattern.now c.fill_from.new.buffer c.new-turns.ensures.good c.requires.0 (rw c.new-turns.ensures.same at c.counts_of-counts.ensures)
     (c.fill_from.ensures ∙ ap (λ (m : ℕ). fill m (values counts) a.pattern.now) c.jobs.ensures.count)

@@ -19,7 +19,7 @@ pub loop-q-preserved : goal.loop-q-preserved
 loop-q-preserved c =
     let i = c.self.inside in
     let b = c.self.invariant in
-    late_more i.words.now c.args.k.k c.loop-q.q _ c.latest_at.result c.loop-q.late
+    late_more i.words.now c.args.faults.k c.loop-q.q _ c.latest_at.result c.loop-q.late
     (turn-job i.words.now i.order.now i.n c.loop-q.q b.arrivals b.all b.few c.loop-q-test.true)
     (bounds-late-job c)
     (rw c.self.view_is c.latest_at.ensures)
@@ -28,4 +28,4 @@ loop-q-preserved c =
 pub returns : goal.returns
 returns c =
     rw (← c.self.view_is)
-    (late_all c.self.inside.words.now c.args.k.k c.self.inside.n c.loop-q.q c.loop-q.late c.self.invariant.all c.loop-q-test.false c.loop-q.invariant)
+    (late_all c.self.inside.words.now c.args.faults.k c.self.inside.n c.loop-q.q c.loop-q.late c.self.invariant.all c.loop-q-test.false c.loop-q.invariant)

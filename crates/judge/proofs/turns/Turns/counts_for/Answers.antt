@@ -5,4 +5,4 @@ use Rattle.judge.proofs.turns.Turns.counts_for.Goals as goal
 pub counts_of-requires : goal.counts_of-requires
 counts_of-requires c =
     let a = c.args in
-    named_below a.self.now a.k.k a.verdict _ _ c.requires c.in-Miss.is
+    named_below a.self.now a.faults.k a.verdict _ _ c.requires c.in-Miss.is
