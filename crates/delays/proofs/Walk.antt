@@ -25,9 +25,8 @@ use Rattle.frame.specs.Delays.{fault_free, delay}
 use Rattle.schedule.specs.Asks.{fault_free_finishes, fill}
 use Rattle.schedule.proofs.Fill.{written-fill}
 use Rattle.delays.specs.Rows.{next_row, rows}
-use Rattle.delays.specs.Places.{place_of, job_at_place, last_finish, free_at, recovery_at, delay_row}
 use Rattle.delays.proofs.Rows.{next_same, rows_fit}
-use Rattle.delays.proofs.Places.{places}
+use Rattle.delays.proofs.Places.{place_of, job_at_place, last_finish, free_at, recovery_at, delay_row, places}
 use Rattle.delays.proofs.Asked.{Finishes, fault_free_finishes_lem}
 use Rattle.delays.proofs.Formula.{delay_is_formula}
 
