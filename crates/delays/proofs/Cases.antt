@@ -8,7 +8,7 @@ use Rattle.frame.specs.Schedule.{need, foremost, waits, runs, had, idle, horizon
 use Rattle.frame.specs.Latest.{over_patterns}
 use Rattle.frame.specs.Delays.{fault_free, extra, most_extra, delay}
 use Rattle.delays.specs.Rows.{next_row, rows}
-use Rattle.delays.specs.Places.{last_finish, delay_row}
+use Rattle.delays.proofs.Places.{last_finish, delay_row}
 
 -- what computes in the case
 worked : ℕ

@@ -18,9 +18,8 @@ use Rattle.jobs.proofs.Below.{by_cases, total_same, total_zero, total_one, count
 use Rattle.jobs.proofs.Refusals.{Good}
 use Rattle.frame.specs.Schedule.{idle, no_faults, free_slots}
 use Rattle.frame.specs.Delays.{fault_free, extra}
-use Rattle.delays.specs.Places.{place_of, job_at_place, finish_at, last_finish, free_at, recovery_at}
 use Rattle.delays.proofs.Rows.{leaves}
-use Rattle.delays.proofs.Places.{places, finishes_apart, finish_rises, last_before, last-after}
+use Rattle.delays.proofs.Places.{place_of, job_at_place, finish_at, last_finish, free_at, recovery_at, places, finishes_apart, finish_rises, last_before, last-after}
 
 count_suc : (n : ℕ) (p : ℕ → Bool) → count (suc n) p ≡ count n p + cond (p n) 1 0
 unfolding count total

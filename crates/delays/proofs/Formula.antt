@@ -16,9 +16,8 @@ use Rattle.frame.specs.Latest.{sum, AtMost}
 use Rattle.frame.specs.Delays.{fault_free, extra, most_extra, delay}
 use Rattle.frame.proofs.Bounds.{sum-total}
 use Rattle.frame.proofs.Patterns.{patterns_bound, patterns_reach}
-use Rattle.delays.specs.Places.{place_of, job_at_place, free_at, recovery_at, delay_row}
 use Rattle.delays.proofs.Rows.{leaves_same, rows_bound, Leaves, rows_reached}
-use Rattle.delays.proofs.Places.{places}
+use Rattle.delays.proofs.Places.{place_of, job_at_place, free_at, recovery_at, delay_row, places}
 use Rattle.delays.proofs.Extra.{faults_at, extra_at_finish}
 
 -- ---- sums

@@ -16,8 +16,8 @@ use Rattle.jobs.specs.Orders.{the_job, held_of, in_order}
 use Rattle.jobs.specs.Arrays.{Holds, Fit, values}
 use Rattle.jobs.specs.declared.Job.{Job}
 use Rattle.jobs.proofs.Below.{by_cases, below_suc}
-use Rattle.jobs.proofs.Placed.{length-filled, get_or-filled}
-use Rattle.jobs.proofs.Orders.{held_at_most, held_all, job_at_same}
+use Rattle.jobs.proofs.Placed.{get_or-filled}
+use Rattle.jobs.proofs.Orders.{held_all, job_at_same}
 use Rattle.jobs.proofs.Refusals.{Good, good}
 use Rattle.jobs.proofs.Arrays.{holds_same, holds_zeros}
 use Rattle.frame.specs.Schedule.{free_slots}
@@ -25,9 +25,8 @@ use Rattle.frame.specs.Delays.{fault_free, delay}
 use Rattle.schedule.specs.Asks.{fault_free_finishes, fill}
 use Rattle.schedule.proofs.Fill.{written-fill}
 use Rattle.delays.specs.Rows.{next_row, rows}
-use Rattle.delays.specs.Places.{place_of, job_at_place, last_finish, free_at, recovery_at, delay_row}
 use Rattle.delays.proofs.Rows.{next_same, rows_fit}
-use Rattle.delays.proofs.Places.{places}
+use Rattle.delays.proofs.Places.{place_of, job_at_place, last_finish, free_at, recovery_at, delay_row, places}
 use Rattle.delays.proofs.Asked.{Finishes, fault_free_finishes_lem}
 use Rattle.delays.proofs.Formula.{delay_is_formula}
 
@@ -49,13 +48,6 @@ module _ (table finishes : List ℕ) (order : List Job) (n : ℕ) (none : first 
   keys : length (take n finishes) ≡ jobs table
   keys = omega (arith, length-take n finishes, f.holds.long, f.few, all)
 
-  -- as many turns as jobs
-  pub turns : length (take n order) ≡ jobs table
-  unfolding in_order
-  turns =
-      let long : length order ≡ 64 = ap length o ∙ length-filled the_job (held_of (length (take n finishes))) _ (held_at_most (length (take n finishes))) in
-      omega (arith, length-take n order, long, all, f.few)
-
   -- the job that is handed over at a place
   order_is_places : (p : ℕ) → p < jobs table → get_or order p (the_job 0) ≡ the_job (job_at_place table p)
   unfolding in_order
@@ -64,11 +56,11 @@ module _ (table finishes : List ℕ) (order : List Job) (n : ℕ) (none : first 
       ∙ get_or-filled the_job (held_of (length (take n finishes))) _ (the_job 0) p (rw (keys, held_all (jobs table) f.few) l)
       ∙ ap the_job (rw keys (job_at_same (values (take n finishes)) (fault_free table) (jobs table) (λ i m. get_or-take n finishes i 0 (omega (arith, all)) ∙ f.holds.each i m) p))
 
-  pub turn_at : (p : ℕ) → p < length (take n order) → Turn table finishes p (get_or (take n order) p (the_job 0))
-  turn_at p l =
-      let below : p < jobs table = omega (arith, turns) in
-      let here : get_or (take n order) p (the_job 0) ≡ the_job (job_at_place table p) = get_or-take n order p (the_job 0) (omega (arith, all)) ∙ order_is_places p below in
-      let job_below : (get_or (take n order) p (the_job 0)).0 < jobs table = rw here ((places table).at_below p below) in
+  pub turn_at : (p : ℕ) → p < n → (job : Job) → job ≡ get_or order p (the_job 0) → Turn table finishes p job
+  turn_at p l job handed =
+      let below : p < jobs table = omega (arith, all) in
+      let here : job ≡ the_job (job_at_place table p) = handed ∙ order_is_places p below in
+      let job_below : job.0 < jobs table = rw here ((places table).at_below p below) in
       record { good = good table none; below = below; here = here; job_below = job_below; ends = f.holds.each _ job_below }
 
 -- ---- the walk

@@ -9,15 +9,24 @@
 
 mod row;
 
-ghost use Rattle.std.specs.Prelude.{◌≡◌, ◌≤◌, length};
+ghost use Rattle.std.specs.Prelude.{◌≡◌, ◌<◌, ◌≤◌, length, get_or};
 ghost use Rattle.jobs.specs.Table.{jobs};
+ghost use Rattle.jobs.specs.Orders.{the_job};
 ghost use Rattle.frame.specs.Delays.{delay};
 ghost use Rattle.schedule.specs.Asks.{fill};
 ghost use Rattle.delays.specs.Ask.{Delayed};
 
 use crate::row::next_row;
-use jobs::{Faults, Reason, Refusal, Table, given, in_order, recovery};
+use jobs::{Faults, Job, Place, Reason, Refusal, Table, given, in_order, recovery};
 use schedule::{fault_free, idle_between};
+
+// The job at a finishing place.
+fn job_at(order: &[Job; 64], place: Place) -> Job
+    requires { place.0 < 64 }
+    ensures { result ≡ get_or order.now place.0 (the_job 0) }
+{
+    order[place.0]
+}
 
 // The walk over the finishes in their order: each row is made from the last, and its entry for k is the delay of the job that finishes there.
 fn fill_delays(table: &Table, faults: Faults, delays: &mut [u32])
@@ -30,7 +39,8 @@ fn fill_delays(table: &Table, faults: Faults, delays: &mut [u32])
     let order = in_order(&finishes[..n]);
     let mut row = [0; 9];
     let mut last = 0;
-    for &job in &order[..n] {
+    for p in 0..n {
+        let job = job_at(&order, Place(p));
         let end = finishes[job.0];
         let free = idle_between(table, last, end);
         row = next_row(row, free, recovery(words, job));
