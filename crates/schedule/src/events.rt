@@ -37,16 +37,6 @@ fn check(table: &Table, pattern: &[u32], room: usize) -> Result<(), Refusal>
     given(room < n, Reason::ShortBuffer, n)
 }
 
-// The slots that a job needs: C + f × V.
-fn need_of(table: &Table, pattern: &[u32], job: Job) -> u32
-    requires counts { AtMost (jobs table.now) 8 pattern.now }
-    requires job_bound { job.0 < jobs table.now }
-    ensures { result ≡ need table.now pattern.now job.0 }
-{
-    let words = table.words();
-    jobs::run(words, job) + pattern[job.0] * jobs::recovery(words, job)
-}
-
 // What a function gives for each of n jobs, by job number.
 fn by_number<F: Fn(Job) -> u32>(n: usize, of_job: F) -> [u32; 64]
     requires few { n ≤ 64 }
@@ -67,14 +57,6 @@ fn ready_times(table: &Table) -> [u32; 64]
 {
     let words = table.words();
     by_number(table.jobs(), |job| jobs::ready(words, job))
-}
-
-// The slots that each job needs.
-fn needs(table: &Table, pattern: &[u32]) -> [u32; 64]
-    requires { AtMost (jobs table.now) 8 pattern.now }
-    ensures { Holds 64 result (jobs table.now) (need table.now pattern.now) }
-{
-    by_number(table.jobs(), |job| need_of(table, pattern, job))
 }
 
 // A ready time, if it is still to come; else NEVER.
@@ -135,26 +117,50 @@ fn run_on(job: Job, time: u32, next: Option<u32>, left: &mut [u32], finishes: &m
     }
 }
 
-// The schedule of a frame that is not refused: each finish goes into the buffer when its job ends. No event is left when no job waits
-// and none is still to come.
-fn walk(table: &Table, pattern: &[u32], finishes: &mut [u32])
-    requires counts { AtMost (jobs table.now) 8 pattern.now }
-    requires room { jobs table.now ≤ length finishes.old }
-    ensures { finishes.new ≡ fill (jobs table.now) (finish table.now pattern.now) finishes.old }
-{
-    let n = table.jobs();
-    let ranking = jobs::by_urgency(table.words());
-    let times = ready_times(table);
-    let mut left = needs(table, pattern);
-    let mut time = 0;
-    loop {
-        let next = next_ready(&times[..n], time);
-        let job = pick(&ranking.job[..n], &times, &left, time);
-        time = match (job, next) {
-            (Some(job), _) => run_on(job, time, next, &mut left, finishes),
-            (None, Some(next)) => next,
-            (None, None) => return,
-        };
+// A frame and a pattern for it, neither refused.
+#[derive(Drop)]
+struct Accepted<'a> {
+    table: Table<'a>,
+    pattern: &'a [u32],
+    ghost counts: { AtMost (jobs table) 8 pattern.now },
+}
+
+impl<'a> Accepted<'a> {
+    // The slots that a job needs: C + f × V.
+    fn need_of(&self, job: Job) -> u32
+        requires job_bound { job.0 < jobs self.now.table }
+        ensures { result ≡ need self.now.table self.now.pattern.now job.0 }
+    {
+        let words = self.table.words();
+        jobs::run(words, job) + self.pattern[job.0] * jobs::recovery(words, job)
+    }
+
+    // The slots that each job needs.
+    fn needs(&self) -> [u32; 64]
+        ensures { Holds 64 result (jobs self.now.table) (need self.now.table self.now.pattern.now) }
+    {
+        by_number(self.table.jobs(), |job| self.need_of(job))
+    }
+
+    // The schedule: each finish goes into the buffer when its job ends. No event is left when no job waits and none is still to come.
+    fn walk(&self, finishes: &mut [u32])
+        requires room { jobs self.now.table ≤ length finishes.old }
+        ensures { finishes.new ≡ fill (jobs self.now.table) (finish self.now.table self.now.pattern.now) finishes.old }
+    {
+        let n = self.table.jobs();
+        let ranking = jobs::by_urgency(self.table.words());
+        let times = ready_times(&self.table);
+        let mut left = self.needs();
+        let mut time = 0;
+        loop {
+            let next = next_ready(&times[..n], time);
+            let job = pick(&ranking.job[..n], &times, &left, time);
+            time = match (job, next) {
+                (Some(job), _) => run_on(job, time, next, &mut left, finishes),
+                (None, Some(next)) => next,
+                (None, None) => return,
+            };
+        }
     }
 }
 
@@ -164,7 +170,7 @@ pub fn schedule(table: &[u32], pattern: &[u32], finishes: &mut [u32]) -> Result<
 {
     let table = Table::new(table)?;
     check(&table, pattern, finishes.len())?;
-    walk(&table, pattern, finishes);
+    Accepted { table, pattern }.walk(finishes);
     Ok(())
 }
 
@@ -175,7 +181,8 @@ pub fn fault_free(table: &[u32]) -> [u32; 64]
     let none = [0; 64];
     let mut finishes = [0; 64];
     if let Ok(table) = Table::new(table) {
-        walk(&table, &none[..table.jobs()], &mut finishes);
+        let pattern = &none[..table.jobs()];
+        Accepted { table, pattern }.walk(&mut finishes);
     }
     finishes
 }

@@ -1,19 +1,19 @@
--- `schedule::events::walk` meets its contract. At each event what is left and what is written are the definition's (`Along`); an event
+-- `schedule::events::Accepted::walk` meets its contract. At each event what is left and what is written are the definition's (`Along`); an event
 -- keeps that and is one of at most 2n (`turns`), and when no event is left every job's finish is written.
 -- Assumes nothing.
 use mathlib.Core.Path.{sym, ◌∙◌}
 use lib.ListN.{take}
 use Rattle.jobs.proofs.Refusals.{good}
 use Rattle.schedule.proofs.Walk.{Begun, along_first, along_idle, turns-idle, all_written, places, fits_run, along_run, turns-run}
-use Rattle.schedule.proofs.events.walk.Goals as goal
+use Rattle.schedule.proofs.events.Accepted.walk.Goals as goal
 
 pub loop-job-init : goal.loop-job-init
 loop-job-init c =
     let n = c.jobs-n.result in
-    let begun : Begun c.args.table.now c.args.pattern.now c.args.finishes.now n (take n c.by_urgency-ranking.result.job) c.ready_times-times.result =
+    let begun : Begun c.args.self.now.table c.args.self.now.pattern.now c.args.finishes.now n (take n c.by_urgency-ranking.result.job) c.ready_times-times.result =
     record {
-      good = good c.args.table.now c.words.ensures.good;
-      counts = c.requires.counts;
+      good = good c.args.self.now.table c.words.ensures.good;
+      counts = c.args.self.now.counts;
       room = c.requires.room;
       all_jobs = c.jobs-n.ensures.count;
       order_is = rw (c.jobs-n.ensures.count, c.by_urgency-ranking.ensures, c.words.ensures.all);
