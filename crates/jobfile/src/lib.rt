@@ -26,7 +26,7 @@ pub enum Record {
 }
 
 // The walk over the file: the lent bytes, the offset of the next record, the jobs before it, and k so far.
-#[derive(Drop)]
+#[derive(Clone, Copy)]
 pub struct Reader<'a> {
     pub file: &'a [u8],
     pub at: usize,
