@@ -2,9 +2,10 @@
 
 #![tactic(auto)]
 
-ghost use Rattle.std.specs.Prelude.{◌≡◌, cond, ◌+◌, ◌≤◌, length};
+ghost use Rattle.std.specs.Prelude.{◌≡◌, cond, ◌+◌, ◌-◌, ◌≤◌, length};
 ghost use Rattle.jobfile.specs.Bytes.{number_at};
-ghost use Rattle.jobfile.specs.Reading.{met, at_after, n_after, k_after};
+ghost use Rattle.std.specs.Iterator.{at_most};
+ghost use Rattle.jobfile.specs.Reading.{Steps};
 ghost use Rattle.jobfile.specs.Meaning.{headless_k, length_of, row_of, strays, head_at, job_at, record_at, headed, meaning, answered, filled, Good, ReadsTo};
 
 use jobs::{MOST_FAULTS, MOST_JOBS, ROW, Reason, Refusal, given, in_range};
@@ -135,20 +136,21 @@ impl<'a> Reader<'a> {
             k: HEADLESS_K,
         }
     }
+}
 
-    // The record at the reader's place, none at the end of the file; the reader passes it, unless it is refused.
-    fn next(&mut self) -> Option<Result<Record, Refusal>>
-        ensures met { result ≡ met self.old.file.now self.old.at self.old.n }
-        ensures file { self.new.file ≡ self.old.file }
-        ensures at { self.new.at ≡ at_after result self.old.at }
-        ensures n { self.new.n ≡ n_after result self.old.n }
-        ensures k { self.new.k ≡ k_after result self.old.k }
-    {
+// What the records up to each hold, from the reader's place to the end of the file: a record is passed, and a refused one ends the walk.
+impl<'a> Iterator for Reader<'a> {
+    type Item = Result<Contents, Refusal>;
+
+    ghost next_gives = { Steps };
+
+    ghost remaining = { λ reader. at_most (length reader.file.now - reader.at) };
+
+    fn next(&mut self) -> Option<Result<Contents, Refusal>> {
         if self.file.len() <= self.at {
             return None;
         }
-        let record = record_of(&self.file[self.at..], self.at, self.n);
-        match record {
+        match record_of(&self.file[self.at..], self.at, self.n) {
             Ok(Record::Head(k)) => {
                 self.k = k;
                 self.at += HEAD_BYTES;
@@ -157,9 +159,15 @@ impl<'a> Reader<'a> {
                 self.n += 1;
                 self.at += JOB_BYTES;
             }
-            Err(_) => {}
+            Err(refusal) => {
+                self.at = self.file.len();
+                return Some(Err(refusal));
+            }
         }
-        Some(record)
+        Some(Ok(Contents {
+            n: self.n,
+            k: self.k,
+        }))
     }
 }
 
@@ -167,15 +175,15 @@ impl<'a> Reader<'a> {
 fn answer(file: &[u8], room: usize) -> Result<Contents, Refusal>
     ensures { result ≡ answered (meaning file.now) room (length file.now) }
 {
-    let mut reader = Reader::start(file, 0);
-    while let Some(record) = reader.next() {
-        record?;
+    let mut contents = Contents {
+        n: 0,
+        k: HEADLESS_K,
+    };
+    for record in Reader::start(file, 0) {
+        contents = record?;
     }
-    given(room < reader.n * ROW, Reason::ShortTable, file.len())?;
-    Ok(Contents {
-        n: reader.n,
-        k: reader.k,
-    })
+    given(room < contents.n * ROW, Reason::ShortTable, file.len())?;
+    Ok(contents)
 }
 
 // Where the jobs begin: after the head, if the file has one.
