@@ -5,7 +5,7 @@ use Rattle.jobfile.specs.declared.Record.TheVariants.{Head, Job}
 use Rattle.jobs.specs.declared.refusal.Refusal.{Refusal}
 use Rattle.jobfile.specs.declared.Contents.{Contents}
 use Rattle.jobfile.specs.declared.Reader.{Reader}
-use Rattle.jobfile.specs.Meaning.{Answer, record_at, contents}
+use Rattle.jobfile.specs.Meaning.{Answer, record_at}
 
 -- What a reader meets at an offset: a record, or the end of the file.
 abbrev pub met : List ℕ → ℕ → ℕ → Option Answer
@@ -18,30 +18,22 @@ at_after (Some (Ok Job)) at end = at + 20
 at_after (Some (Err refusal)) at end = end
 at_after None at end = at
 
--- The jobs before that record.
-abbrev pub n_after : Option Answer → ℕ → ℕ
-n_after (Some (Ok (Head k))) n = n
-n_after (Some (Ok Job)) n = n + 1
-n_after (Some (Err refusal)) n = n
-n_after None n = n
-
--- The k so far.
-abbrev pub k_after : Option Answer → ℕ → ℕ
-k_after (Some (Ok (Head faults))) k = faults
-k_after (Some (Ok Job)) k = k
-k_after (Some (Err refusal)) k = k
-k_after None k = k
+-- The n and k with that record.
+abbrev pub with_record : Option Answer → Contents → Contents
+with_record (Some (Ok (Head faults))) so_far = record { n = so_far.n; k = faults }
+with_record (Some (Ok Job)) so_far = record { n = so_far.n + 1; k = so_far.k }
+with_record (Some (Err refusal)) so_far = so_far
+with_record None so_far = so_far
 
 -- What a reader gives: n and k with that record, or its refusal.
-abbrev pub told : Option Answer → ℕ → ℕ → Option (Result Contents Refusal)
-told (Some (Ok good)) n k = Some (contents (n_after (Some (Ok good)) n) (k_after (Some (Ok good)) k))
-told (Some (Err refusal)) n k = Some (Err refusal)
-told None n k = None
+abbrev pub told : Option Answer → Contents → Option (Result Contents Refusal)
+told (Some (Ok good)) so_far = Some (Ok (with_record (Some (Ok good)) so_far))
+told (Some (Err refusal)) so_far = Some (Err refusal)
+told None so_far = None
 
 -- A step of a reader: what it gives, and where it stands after it.
 pub record Steps (before : Reader) (given : Option (Result Contents Refusal)) (after : Reader) : Type 0 where
-  pub told : given ≡ told (met before.file.now before.at before.n) before.n before.k
+  pub told : given ≡ told (met before.file.now before.at before.contents.n) before.contents
   pub file : after.file ≡ before.file
-  pub at : after.at ≡ at_after (met before.file.now before.at before.n) before.at (length before.file.now)
-  pub n : after.n ≡ n_after (met before.file.now before.at before.n) before.n
-  pub k : after.k ≡ k_after (met before.file.now before.at before.n) before.k
+  pub at : after.at ≡ at_after (met before.file.now before.at before.contents.n) before.at (length before.file.now)
+  pub contents : after.contents ≡ with_record (met before.file.now before.at before.contents.n) before.contents

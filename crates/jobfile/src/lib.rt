@@ -25,13 +25,12 @@ pub enum Record {
     Job,
 }
 
-// The walk over the file: the lent bytes, the offset of the next record, the jobs before it, and k so far.
+// The walk over the file: the lent bytes, the offset of the next record, and n and k of the records before it.
 #[derive(Clone, Copy)]
 pub struct Reader<'a> {
     pub file: &'a [u8],
     pub at: usize,
-    pub n: usize,
-    pub k: u32,
+    pub contents: Contents,
 }
 
 // What a job file holds beside its rows: n and k.
@@ -127,18 +126,20 @@ impl<'a> Reader<'a> {
     // A reader at an offset of the file, that has passed no record.
     fn start(file: &'a [u8], at: usize) -> Reader<'a>
         ensures place { (result.file ≡ file.entry) × (result.at ≡ at) }
-        ensures tally { (result.n ≡ 0) × (result.k ≡ headless_k) }
+        ensures tally { (result.contents.n ≡ 0) × (result.contents.k ≡ headless_k) }
     {
         Reader {
             file,
             at,
-            n: 0,
-            k: HEADLESS_K,
+            contents: Contents {
+                n: 0,
+                k: HEADLESS_K,
+            },
         }
     }
 }
 
-// What the records up to each hold, from the reader's place to the end of the file: a record is passed, and a refused one ends the walk.
+// The n and k with each record, from the reader's place to the end of the file: a record is passed, and a refused one ends the walk.
 impl<'a> Iterator for Reader<'a> {
     type Item = Result<Contents, Refusal>;
 
@@ -150,13 +151,13 @@ impl<'a> Iterator for Reader<'a> {
         if self.file.len() <= self.at {
             return None;
         }
-        match record_of(&self.file[self.at..], self.at, self.n) {
+        match record_of(&self.file[self.at..], self.at, self.contents.n) {
             Ok(Record::Head(k)) => {
-                self.k = k;
+                self.contents.k = k;
                 self.at += HEAD_BYTES;
             }
             Ok(Record::Job) => {
-                self.n += 1;
+                self.contents.n += 1;
                 self.at += JOB_BYTES;
             }
             Err(refusal) => {
@@ -164,10 +165,7 @@ impl<'a> Iterator for Reader<'a> {
                 return Some(Err(refusal));
             }
         }
-        Some(Ok(Contents {
-            n: self.n,
-            k: self.k,
-        }))
+        Some(Ok(self.contents))
     }
 }
 
@@ -175,11 +173,9 @@ impl<'a> Iterator for Reader<'a> {
 fn answer(file: &[u8], room: usize) -> Result<Contents, Refusal>
     ensures { result ≡ answered (meaning file.now) room (length file.now) }
 {
-    let mut contents = Contents {
-        n: 0,
-        k: HEADLESS_K,
-    };
-    for record in Reader::start(file, 0) {
+    let reader = Reader::start(file, 0);
+    let mut contents = reader.contents;
+    for record in reader {
         contents = record?;
     }
     given(room < contents.n * ROW, Reason::ShortTable, file.len())?;

@@ -11,5 +11,5 @@ pub overflow_add-self-in-Ok-Job : goal.overflow_add-self-in-Ok-Job
 overflow_add-self-in-Ok-Job c =
     let r = c.args.self.now in
     let left = take (length r.file.now - r.at) (drop r.at r.file.now) in
-    let j = as_job left r.at r.n (sym c.record_of.ensures ∙ c.in-Ok-Job.is ∙ ap Ok c.in-Ok-Job.field-0-is) in
+    let j = as_job left r.at r.contents.n (sym c.record_of.ensures ∙ c.in-Ok-Job.is ∙ ap Ok c.in-Ok-Job.field-0-is) in
     omega arith
