@@ -7,7 +7,7 @@ ghost use Rattle.frame.specs.Latest.{latest, verdict as verdict_of};
 ghost use Rattle.schedule.specs.Asks.{fill};
 ghost use Rattle.judge.specs.Asks.{Handed, HandedFor, Judging, Reaching};
 
-use crate::turns::Turns;
+use crate::turns::{Turns, arrivals};
 use frame::Verdict;
 use jobs::{Faults, Job, Reason, Refusal, Table, given};
 
@@ -27,7 +27,7 @@ fn judge_frame(table: &Table, faults: Faults, finishes: &mut [u32], pattern: &mu
     ensures handed_for { HandedFor table.now faults.k result pattern.old pattern.new }
 {
     let n = table.jobs();
-    let order = &jobs::by_ready(table.words());
+    let order = &arrivals(table);
     let ranking = &jobs::by_urgency(table.words());
     let turns = Turns::new(table, order, ranking);
     let late = turns.all_latest(faults);
@@ -60,7 +60,7 @@ fn hand_out(table: &Table, faults: Faults, job: Job, pattern: &mut [u32])
     requires { (job.0 < jobs table.now) × (jobs table.now ≤ length pattern.old) }
     ensures { Handed table.now faults.k job.0 pattern.old pattern.new }
 {
-    let order = &jobs::by_ready(table.words());
+    let order = &arrivals(table);
     let ranking = &jobs::by_urgency(table.words());
     let turns = Turns::new(table, order, ranking);
     let counts = turns.counts_of(faults, job);

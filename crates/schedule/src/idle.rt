@@ -40,7 +40,7 @@ pub fn idle_between(table: &Table, a: u32, b: u32) -> u32
     if b <= a {
         return 0;
     }
-    let order = &by_ready(table.words());
+    let order = by_ready(table.words());
     let arrivals = &order.job[..table.jobs()];
     idle_before(table, arrivals, b) - idle_before(table, arrivals, a)
 }
