@@ -7,11 +7,11 @@ use mathlib.Core.Bool.{Bool, true, false, not}
 use mathlib.Core.List.{List}
 use lib.ListN.{length}
 use lib.Dec.{ltb, leb, eqb}
-use borrow.Author.Tests.{eq-eqb, eqb-true, not-false, le-ltb, ltb-false, lt-leb, leb-false}
+use borrow.Author.Tests.{eq-eqb, ne_eqb, eqb-true, not-false, lt-ltb, le-ltb, ltb-false, lt-leb, leb-false}
 use Rattle.std.specs.Prelude.{Ok, Err}
 use Rattle.jobs.specs.Refusals.{given, refused}
 use Rattle.jobs.specs.declared.refusal.Reason.{Reason}
-use Rattle.jobs.specs.declared.refusal.Reason.TheVariants.{UnknownKind}
+use Rattle.jobs.specs.declared.refusal.Reason.TheVariants.{CutRecord, WrongLength, UnknownKind}
 use Rattle.jobs.specs.declared.refusal.Refusal.{Refusal}
 use Rattle.jobs.proofs.Below.{by_cases}
 use Rattle.jobs.proofs.Refusals.{refused_not_fine}
@@ -25,6 +25,18 @@ is_given true reason place e = (refl, cc)
 is_given false reason place e = absurd (refused_not_fine (sym e))
 
 module _ (left : List ℕ) (at n : ℕ) where
+  pub too_few_bytes : length left < 2 → record_at left at n ≡ bad CutRecord at
+  unfolding record_at
+  too_few_bytes h = rw (lt-ltb _ _ h)
+
+  pub length_below_two : 2 ≤ length left → length_of left < 2 → record_at left at n ≡ bad WrongLength at
+  unfolding record_at
+  length_below_two h l = rw (le-ltb _ _ h, lt-ltb _ _ l)
+
+  pub cut_off : 2 ≤ length left → 2 ≤ length_of left → length left < 2 + length_of left → record_at left at n ≡ bad CutRecord at
+  unfolding record_at
+  cut_off h l m = rw (le-ltb _ _ h, le-ltb _ _ l, lt-ltb _ _ m)
+
   pub whole : 2 ≤ length_of left → 2 + length_of left ≤ length left → record_at left at n ≡ by_kind (kind_of left) left at n
   unfolding record_at
   whole l m = let h : 2 ≤ length left = omega arith in rw (le-ltb _ _ h, le-ltb _ _ l, le-ltb _ _ m)
@@ -36,6 +48,10 @@ module _ (left : List ℕ) (at n : ℕ) where
   pub kind_two : kind_of left ≡ 2 → by_kind (kind_of left) left at n ≡ job_at left at n
   unfolding by_kind
   kind_two e = rw e
+
+  pub kind_other : (kind_of left ≡ 1 → ⊥) → (kind_of left ≡ 2 → ⊥) → by_kind (kind_of left) left at n ≡ bad UnknownKind at
+  unfolding by_kind
+  kind_other p q = rw (ne_eqb _ _ p, ne_eqb _ _ q)
 
 -- ---- backwards
 

@@ -17,9 +17,15 @@ module _ (table : List ℕ) (k room : ℕ) where
   in_order : first (write_refusals table k room) ≡ after (first (table_refusals table)) (after (too_many_faults k) (after (no_room table k room) fine))
   in_order = first-append (table_refusals table) (too_many_faults k ∷ no_room table k room ∷ [])
 
+  pub table_first : (refusal : Refusal) → first (table_refusals table) ≡ Err refusal → first (write_refusals table k room) ≡ Err refusal
+  table_first refusal e = in_order ∙ ap (λ (c : Check). after c (after (too_many_faults k) (after (no_room table k room) fine))) e
+
   module _ (good : first (table_refusals table) ≡ fine) where
     table_fine : first (write_refusals table k room) ≡ after (too_many_faults k) (after (no_room table k room) fine)
     table_fine = in_order ∙ ap (λ (c : Check). after c (after (too_many_faults k) (after (no_room table k room) fine))) good
+
+    pub faults_next : (refusal : Refusal) → too_many_faults k ≡ Err refusal → first (write_refusals table k room) ≡ Err refusal
+    faults_next refusal e = table_fine ∙ ap (λ (c : Check). after c (after (no_room table k room) fine)) e
 
     module _ (few : too_many_faults k ≡ fine) where
       faults_fine : first (write_refusals table k room) ≡ after (no_room table k room) fine

@@ -1,13 +1,14 @@
 -- Laws of the promises of judge and pattern of one job.
 --
--- In order: the judge's refusals taken apart; a pattern that is handed out; that two results which a promise allows are equal, the pattern's
--- buffer too unless a pattern is handed out. Assumes nothing.
+-- In order: the refusals taken apart; a pattern that is handed out; the judge's promise where nothing is refused; that two results which a promise
+-- allows are equal, the pattern's buffer too unless a pattern is handed out. Assumes nothing.
 use Prim.Native.Nat.{ℕ, zero, suc, ◌≤◌, ◌<◌}
 use native.Mathlib.Omega.{arith}
 use mathlib.Core.Path.{◌≡◌, refl, sym, ap, ◌∙◌}
 use mathlib.Core.List.{List, [], ◌∷◌, ◌++◌}
 use lib.ListN.{length, get_or, take, drop, length-take}
 use lib.Seq.{ext_get_or}
+use borrow.Author.Tests.{ltb-true, ltb-false, not-false}
 use Rattle.std.proofs.lemmas.List.{get_or-take}
 use Rattle.std.specs.Prelude.{Result, Ok, Err}
 use Rattle.jobs.specs.Below.{listed}
@@ -15,17 +16,18 @@ use Rattle.jobs.specs.Table.{jobs}
 use Rattle.jobs.specs.Refusals.{Check, fine, after, first, table_refusals, too_many_faults}
 use Rattle.jobs.specs.Arrays.{values}
 use Rattle.jobs.specs.declared.Job.{Job}
+use Rattle.jobs.specs.declared.refusal.Reason.TheVariants.{TooManyFaults, NoSuchJob, WrongPattern}
 use Rattle.jobs.specs.declared.refusal.Refusal.{Refusal}
 use Rattle.jobs.proofs.Below.{length-listed, get_or-listed}
-use Rattle.jobs.proofs.Refusals.{good, after_last, first-append}
-use Rattle.frame.specs.Latest.{verdict}
+use Rattle.jobs.proofs.Refusals.{good, not-given, after_fine, after_last, first-append}
+use Rattle.frame.specs.Latest.{latest, verdict}
 use Rattle.frame.specs.declared.Verdict.{Verdict}
 use Rattle.frame.specs.declared.Verdict.TheVariants.{Sound, Miss}
 use Rattle.frame.proofs.Verdicts.{miss_names}
 use Rattle.schedule.specs.Asks.{short_buffer, fill}
 use Rattle.latest.proofs.Latest.{handed_reaches}
 use Rattle.judge.specs.Notes.{Unwound, CountsFor}
-use Rattle.judge.specs.Asks.{short_pattern, judge_refusals, pattern_refusals, Unless, Handed, HandedFor, Judging, Reaching}
+use Rattle.judge.specs.Asks.{short_pattern, no_such_job, judge_refusals, pattern_refusals, Unless, Handed, HandedFor, Judging, Reaching}
 use Rattle.judge.proofs.Unwinding.{zeros_at}
 
 -- ---- the refusals
@@ -38,6 +40,34 @@ three_more table a b c =
 pub judge_refusals_lem : (table : List ℕ) (k finishes pattern : ℕ) → first (judge_refusals table k finishes pattern)
     ≡ after (first (table_refusals table)) (after (too_many_faults k) (after (short_buffer table finishes) (short_pattern table pattern)))
 judge_refusals_lem table k finishes pattern = three_more table (too_many_faults k) (short_buffer table finishes) (short_pattern table pattern)
+
+pub pattern_refusals_lem : (table : List ℕ) (k job pattern : ℕ) → first (pattern_refusals table k job pattern)
+    ≡ after (first (table_refusals table)) (after (too_many_faults k) (after (no_such_job table job) (short_pattern table pattern)))
+pattern_refusals_lem table k job pattern = three_more table (too_many_faults k) (no_such_job table job) (short_pattern table pattern)
+
+-- what the pattern of one job is handed out for
+pub record AcceptedOne (table : List ℕ) (k job pattern : ℕ) : Type 0 where
+  pub fine : first (table_refusals table) ≡ fine
+  pub few : k < 9
+  pub is_job : job < jobs table
+  pub space : jobs table ≤ pattern
+
+pub pattern_accepts : (table : List ℕ) (k job pattern : ℕ) → first (pattern_refusals table k job pattern) ≡ fine → AcceptedOne table k job pattern
+pattern_accepts table k job pattern is_good =
+    let a = after_fine (first (table_refusals table)) _ (sym (pattern_refusals_lem table k job pattern) ∙ is_good) in
+    let b = after_fine (too_many_faults k) _ a.1 in
+    let c = after_fine (no_such_job table job) _ b.1 in
+    let few : k ≤ 8 = ltb-false _ _ (not-given _ TooManyFaults 0 b.0) in
+    record {
+      fine = a.0;
+      few = omega arith;
+      is_job = ltb-true _ _ (not-false _ (not-given _ NoSuchJob 0 c.0));
+      space = ltb-false _ _ (not-given _ WrongPattern (jobs table) c.1);
+    }
+
+-- a table that is not refused has at most 64 jobs
+pub few_jobs : (table : List ℕ) (n : ℕ) → first (table_refusals table) ≡ fine → n ≡ jobs table → n ≤ 64
+few_jobs table n is_good e = omega (arith, (good table is_good).few_jobs)
 
 -- ---- a pattern that is handed out
 
@@ -76,6 +106,13 @@ handed_for table k Sound counts before after is_good e c f =
     f ∙ fill_same (jobs table) (values counts) (λ job. 0) before (λ i l. ap (λ (xs : List ℕ). get_or xs i 0) c ∙ zeros_at 64 i)
 handed_for table k (Miss job time) counts before after is_good e c f =
     counts_handed table k job.0 counts before after is_good (named_below table k (Miss job time) job time e refl) c f
+
+-- ---- the judge's promise
+
+pub judging_fine : (table : List ℕ) (k : ℕ) (finishes pattern finishes' pattern' : List ℕ) (v : Verdict)
+    → first (judge_refusals table k (length finishes) (length pattern)) ≡ fine → v ≡ verdict table k → finishes' ≡ fill (jobs table) (latest table k) finishes
+    → HandedFor table k v pattern pattern' → Judging table k finishes finishes' pattern pattern' (Ok v)
+judging_fine table k finishes pattern finishes' pattern' v is_good e f h = record { answers = rw is_good (ap Ok e); fills = rw is_good f; hands = rw (is_good, ← e) h }
 
 -- ---- two results are equal
 
