@@ -180,6 +180,10 @@ rows_more table q rows x m e h =
 pub on_here : {table : List ℕ} {n : ℕ} {rows : List Turn} → Rows table n rows → (q mine : ℕ) (d : Turn) → q < n → leb (get_or rows q d).rank mine ≡ on_turn table mine q
 on_here r q mine d l = ap (λ (x : Turn). leb x.rank mine) (r.each q d l)
 
+-- the recovery of the job at a turn, by its row
+pub recovery_at_lem : {table : List ℕ} {n : ℕ} {rows : List Turn} → Rows table n rows → (q : ℕ) (d : Turn) → q < n → (get_or rows q d).recovery ≡ recovery table (job_at_turn table q)
+recovery_at_lem r q d l = ap (λ (x : Turn). x.recovery) (r.each q d l)
+
 -- ---- the next turn that is walked
 
 module _ (table : List ℕ) (n mine : ℕ) where
