@@ -5,7 +5,7 @@
 use Prim.Native.Nat.{ℕ, zero, suc, ◌≤◌, ◌<◌}
 use native.Mathlib.Omega.{arith}
 use mathlib.Core.Path.{◌≡◌, refl, sym, ap, ◌∙◌}
-use mathlib.Core.List.{List, [], ◌∷◌, ◌++◌}
+use mathlib.Core.List.{List, ◌++◌}
 use lib.ListN.{length, get_or, take, drop, length-take}
 use lib.Seq.{ext_get_or}
 use borrow.Author.Tests.{ltb-true, ltb-false, not-false}
@@ -19,23 +19,19 @@ use Rattle.jobs.specs.declared.Job.{Job}
 use Rattle.jobs.specs.declared.refusal.Reason.TheVariants.{TooManyFaults, NoSuchJob, WrongPattern}
 use Rattle.jobs.specs.declared.refusal.Refusal.{Refusal}
 use Rattle.jobs.proofs.Below.{length-listed, get_or-listed}
-use Rattle.jobs.proofs.Refusals.{good, not-given, after_fine, after_last, first-append}
+use Rattle.jobs.proofs.Refusals.{good, not-given, after_fine}
 use Rattle.frame.specs.Latest.{latest, verdict}
 use Rattle.frame.specs.declared.Verdict.{Verdict}
 use Rattle.frame.specs.declared.Verdict.TheVariants.{Sound, Miss}
 use Rattle.frame.proofs.Verdicts.{miss_names}
 use Rattle.schedule.specs.Asks.{short_buffer, fill}
+use Rattle.schedule.proofs.Asks.{three_more}
 use Rattle.latest.proofs.Latest.{handed_reaches}
 use Rattle.judge.specs.Notes.{Unwound, CountsFor}
 use Rattle.judge.specs.Asks.{short_pattern, no_such_job, judge_refusals, pattern_refusals, Unless, Handed, HandedFor, Judging, Reaching}
 use Rattle.judge.proofs.Unwinding.{zeros_at}
 
 -- ---- the refusals
-
--- after the table's own, three more
-three_more : (table : List ℕ) (a b c : Check) → first (table_refusals table ++ a ∷ b ∷ c ∷ []) ≡ after (first (table_refusals table)) (after a (after b c))
-three_more table a b c =
-    first-append (table_refusals table) (a ∷ b ∷ c ∷ []) ∙ ap (λ last. after (first (table_refusals table)) (after a (after b last))) (after_last c)
 
 pub judge_refusals_lem : (table : List ℕ) (k finishes pattern : ℕ) → first (judge_refusals table k finishes pattern)
     ≡ after (first (table_refusals table)) (after (too_many_faults k) (after (short_buffer table finishes) (short_pattern table pattern)))
